@@ -1,0 +1,1 @@
+// Definitions and lemmas that the specs of several crates share; it has no code.
