@@ -1,0 +1,2 @@
+pub mod Tariff
+pub mod Choice
