@@ -1,3 +1,4 @@
 pub mod Rounding
 pub mod Months
 pub mod Figures
+pub mod Sums

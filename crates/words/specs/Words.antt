@@ -4,6 +4,7 @@ use mathlib.Core.List.{List, [], _∷_}
 use Prim.Native.Nat.{ℕ, _+_}
 use lib.Dec.{eqb}
 use lib.ListN.{take, drop}
+use Rattle.std.specs.shelf.Text.{sameBytes}
 
 -- a space or a tab
 abbrev pub isBlank : ℕ → Bool
@@ -25,3 +26,7 @@ wordOf line = take (spanOf false (textOf line)) (textOf line)
 -- what stands behind the first word
 abbrev pub restOf : List ℕ → List ℕ
 restOf line = drop (spanOf false (textOf line)) (textOf line)
+
+-- the word is the one of this name
+unfoldable pub isWord : List ℕ → List ℕ → Bool
+isWord word name = sameBytes word name

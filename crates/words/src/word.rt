@@ -2,7 +2,7 @@
 ghost use mathlib.Core.Path.{_≡_};
 ghost use Prim.Native.Nat.{_≤_};
 ghost use lib.ListN.{length};
-ghost use Rattle.words.specs.Words.{isBlank, spanOf, wordOf, restOf};
+ghost use Rattle.words.specs.Words.{isBlank, isWord, spanOf, wordOf, restOf};
 
 // Words are parted by spaces and tabs.
 fn is_blank(byte: u8) -> bool
@@ -31,4 +31,11 @@ pub fn split_word(line: &[u8]) -> (&[u8], &[u8])
 {
     let (_, text) = line.split_at(span(line, true));
     text.split_at(span(text, false))
+}
+
+// Whether a word is the one of this name.
+pub fn is_word(word: &[u8], name: &[u8]) -> bool
+    ensures { λ r. ⌜ r ≡ isWord (now (word .entry)) (now (name .entry)) ⌝ }
+{
+    word == name
 }
