@@ -1,0 +1,7 @@
+//! An independent calculation, written from `docs/` alone: the plainest
+//! formulas, so that any script can be compared with the product by `diff`.
+
+pub mod house;
+pub mod refusal;
+pub mod rules;
+pub mod script;
