@@ -3,7 +3,7 @@ use mathlib.Core.Path.{_≡_, refl, sym, _∙_}
 use mathlib.Core.Bool.{Bool, true, false, _&&_, _||_}
 use Prim.Native.Nat.{ℕ, _+_, _<_}
 use native.Mathlib.Numerals.{add-one}
-use Rattle.std.proofs.shelf.Ways.{decides-below-and}
+use Rattle.std.proofs.shelf.Ways.{decides-below-and, decides-below-or}
 use Rattle.common.specs.Counts.{sumTo, allTo, anyTo}
 
 pub sumTo-more : (f : ℕ → ℕ) (n : ℕ) → sumTo f (n + 1) ≡ sumTo f n + f n
@@ -28,3 +28,11 @@ pub allTo-not : (p : ℕ → Bool) (n k : ℕ) → k < n → p k ≡ false → a
 allTo-not p n k h f =
     elim (allTo p n) as (λ b. (b ≡ true → (k : ℕ) → k < n → p k ≡ true) → b ≡ false)
     [ true ↦ (λ w. let a : p k ≡ true = w refl k h in let z : true ≡ false = sym a ∙ f in sym (sym z)) | false ↦ (λ w. refl) ] (allTo-at p n)
+
+-- some number has what one number has
+pub anyTo-from : (p : ℕ → Bool) (n k : ℕ) → k < n → p k ≡ true → anyTo p n ≡ true
+anyTo-from p n k h t = decides-below-or p (λ k. p k ≡ true) (anyTo p) (λ k. (λ e. e, λ e. e)) refl (λ m. refl) n .1 (k, h, t)
+
+-- what some number has is found
+pub anyTo-at : (p : ℕ → Bool) (n : ℕ) → anyTo p n ≡ true → (k : ℕ) × (k < n) × (p k ≡ true)
+anyTo-at p n t = decides-below-or p (λ k. p k ≡ true) (anyTo p) (λ k. (λ e. e, λ e. e)) refl (λ m. refl) n .0 t

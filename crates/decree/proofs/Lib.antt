@@ -1,0 +1,5 @@
+pub mod Digits
+pub mod Permitted
+pub mod Metered
+pub mod Bounds
+pub mod Decreeing
