@@ -1,8 +1,9 @@
 -- Sums and tests over the numbers below a count, one number more.
 use mathlib.Core.Path.{_≡_, refl, sym, _∙_}
 use mathlib.Core.Bool.{Bool, true, false, _&&_, _||_}
-use Prim.Native.Nat.{ℕ, _+_, _<_}
+use Prim.Native.Nat.{ℕ, zero, suc, _+_, _<_}
 use native.Mathlib.Numerals.{add-one}
+use native.Mathlib.Omega.{arith}
 use Rattle.std.proofs.shelf.Ways.{decides-below-and, decides-below-or}
 use Rattle.common.specs.Counts.{sumTo, allTo, anyTo}
 
@@ -36,3 +37,8 @@ anyTo-from p n k h t = decides-below-or p (λ k. p k ≡ true) (anyTo p) (λ k. 
 -- what some number has is found
 pub anyTo-at : (p : ℕ → Bool) (n : ℕ) → anyTo p n ≡ true → (k : ℕ) × (k < n) × (p k ≡ true)
 anyTo-at p n t = decides-below-or p (λ k. p k ≡ true) (anyTo p) (λ k. (λ e. e, λ e. e)) refl (λ m. refl) n .0 t
+
+-- what no number has, none is found to have
+pub anyTo-none : (p : ℕ → Bool) (n : ℕ) → ((k : ℕ) → k < n → p k ≡ false) → anyTo p n ≡ false
+anyTo-none p zero f = refl
+anyTo-none p (suc n) f = rw (f n (omega arith)) (anyTo-none p n (λ k h. f k (omega arith)))

@@ -1,5 +1,6 @@
-pub mod Digits
 pub mod Permitted
 pub mod Metered
 pub mod Bounds
 pub mod Decreeing
+pub mod Rightly
+pub mod Extending

@@ -8,9 +8,9 @@ use Rattle.common.specs.Counts.{allTo}
 use Rattle.common.proofs.Counted.{allTo-not}
 use Rattle.facts.specs.declared.kind.Kind.the-variants.{Unused}
 use Rattle.facts.specs.Usage.{Usage}
-use Rattle.decree.specs.declared.plan.Base.{Base}
-use Rattle.decree.specs.declared.plan.Place.{Place}
-use Rattle.decree.specs.declared.plan.Place.the-variants.{Main}
+use Rattle.decreeplan.specs.declared.plan.Base.{Base}
+use Rattle.decreeplan.specs.declared.plan.Place.{Place}
+use Rattle.decreeplan.specs.declared.plan.Place.the-variants.{Main}
 use Rattle.decree.specs.Permission.{isExtended, marked, hasNightReserved, placedAt, mayStand, permittedWith}
 
 -- circuit i may be where it is, and the marks are there

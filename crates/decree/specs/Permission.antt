@@ -9,10 +9,10 @@ use Rattle.facts.specs.declared.kind.Kind.{Kind}
 use Rattle.facts.specs.declared.kind.Kind.the-variants.{Unused, General, NightReserved, Interruptible}
 use Rattle.facts.specs.declared.kind.Marks.{Marks}
 use Rattle.facts.specs.Usage.{Dwelling, Usage}
-use Rattle.decree.specs.declared.plan.Base.{Base}
-use Rattle.decree.specs.declared.plan.Base.the-variants.{Normal, TwoRate, Normal30, TwoRate30, Extended, Extended30}
-use Rattle.decree.specs.declared.plan.Place.{Place}
-use Rattle.decree.specs.declared.plan.Place.the-variants.{Main, ExclusiveNight, PeakShed}
+use Rattle.decreeplan.specs.declared.plan.Base.{Base}
+use Rattle.decreeplan.specs.declared.plan.Base.the-variants.{Normal, TwoRate, Normal30, TwoRate30, Extended, Extended30}
+use Rattle.decreeplan.specs.declared.plan.Place.{Place}
+use Rattle.decreeplan.specs.declared.plan.Place.the-variants.{Main, ExclusiveNight, PeakShed}
 
 abbrev pub isExtended : Base → Bool
 isExtended Normal = false

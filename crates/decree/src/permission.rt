@@ -1,10 +1,10 @@
 // Which plans a dwelling may have.
 ghost use mathlib.Core.Path.{_≡_};
 ghost use Rattle.facts.specs.Usage.{usageOf};
-ghost use Rattle.decree.specs.Codes.{placesOf};
+ghost use Rattle.decreeplan.specs.Codes.{placesOf};
 ghost use Rattle.decree.specs.Permission.{isNightReserved, hasNightReserved, mayStand, permittedWith};
-use crate::plan::Base;
-use crate::plan::Place;
+use decreeplan::Base;
+use decreeplan::Place;
 use facts::Facts;
 use facts::Kind;
 use facts::Marks;
@@ -51,7 +51,7 @@ pub(crate) fn permitted(base: Base, code: u64, facts: &Facts) -> bool
 {
     let mut rest = code;
     for i in 0..6usize {
-        let place = Place::of_digit(rest % 3);
+        let place = Place::first(rest);
         if !may_stand(
             base,
             place,

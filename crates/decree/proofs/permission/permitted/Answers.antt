@@ -9,12 +9,12 @@ use Rattle.common.proofs.Counted.{allTo-more}
 use Rattle.facts.specs.declared.kind.Kind.the-variants.{Unused}
 use Rattle.facts.specs.declared.facts.Facts.{Facts}
 use Rattle.facts.specs.Usage.{usageOf}
-use Rattle.decree.specs.declared.plan.Base.{Base}
-use Rattle.decree.specs.declared.plan.Place.{Place}
-use Rattle.decree.specs.declared.plan.Place.the-variants.{Main}
-use Rattle.decree.specs.Codes.{placesOf, placeIn, digitPlace}
+use Rattle.decreeplan.specs.declared.plan.Base.{Base}
+use Rattle.decreeplan.specs.declared.plan.Place.{Place}
+use Rattle.decreeplan.specs.declared.plan.Place.the-variants.{Main}
+use Rattle.decreeplan.specs.Codes.{placesOf, placeIn, digitPlace}
 use Rattle.decree.specs.Permission.{mayStand}
-use Rattle.decree.proofs.Digits.{rest-more, place-at}
+use Rattle.decreeplan.proofs.Digits.{rest-more, place-at}
 use Rattle.decree.proofs.Permitted.{standsAt, permitted-all, permitted-not}
 use Rattle.decree.proofs.permission.permitted.Needs as need
 
@@ -28,12 +28,12 @@ asked b code f rest i p r h e q s =
 
 pub returns-then-not-may-stand : need.returns-then-not-may-stand
 returns-then-not-may-stand c =
-    let s = asked (c .args .base) (c .args .code) (c .args .facts .now) (c .loop-i .rest) (c .loop-i .i) (c .of-digit-place .result) (c .may-stand .result) (omega arith) (c .loop-i .inv .1) (c .of-digit-place .ensures) (c .may-stand .ensures) in
+    let s = asked (c .args .base) (c .args .code) (c .args .facts .now) (c .loop-i .rest) (c .loop-i .i) (c .first-place .result) (c .may-stand .result) (omega arith) (c .loop-i .inv .1) (c .first-place .ensures) (c .may-stand .ensures) in
     sym (permitted-not (c .args .base) (placesOf (c .args .code)) (usageOf (c .args .facts .now)) (c .loop-i .i) (omega arith) (s ∙ c .if-not-may-stand .taken))
 
 pub loop-i-again : need.loop-i-again
 loop-i-again c =
-    let s = asked (c .args .base) (c .args .code) (c .args .facts .now) (c .loop-i .rest) (c .loop-i .i) (c .of-digit-place .result) (c .may-stand .result) (omega arith) (c .loop-i .inv .1) (c .of-digit-place .ensures) (c .may-stand .ensures) in
+    let s = asked (c .args .base) (c .args .code) (c .args .facts .now) (c .loop-i .rest) (c .loop-i .i) (c .first-place .result) (c .may-stand .result) (omega arith) (c .loop-i .inv .1) (c .first-place .ensures) (c .may-stand .ensures) in
     let t = s ∙ c .if-not-may-stand .left in
     let m = allTo-more (standsAt (c .args .base) (placesOf (c .args .code)) (usageOf (c .args .facts .now))) (c .loop-i .i) in (
       grind arith,

@@ -3,7 +3,7 @@ use mathlib.Core.Bool.{true}
 use Prim.Native.Nat.{_/_, _^_}
 use Rattle.common.specs.Counts.{allTo}
 use Rattle.facts.specs.Usage.{usageOf}
-use Rattle.decree.specs.Codes.{placesOf}
+use Rattle.decreeplan.specs.Codes.{placesOf}
 use Rattle.decree.proofs.Permitted.{standsAt}
 use Rattle.decree.proofs.permission.permitted.Given as given
 

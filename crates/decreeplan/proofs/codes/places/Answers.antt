@@ -4,15 +4,15 @@ use native.Mathlib.Omega.{arith}
 use lib.ListN.{length, length-set}
 use Rattle.std.proofs.shelf.Edits.{fill-by-more}
 use Rattle.std.proofs.shelf.Counted.{fill-by-all}
-use Rattle.decree.specs.declared.plan.Place.the-variants.{Main}
-use Rattle.decree.specs.Codes.{placeIn, placesOf, digitPlace}
-use Rattle.decree.proofs.Digits.{rest-more}
-use Rattle.decree.proofs.codes.places.Needs as need
+use Rattle.decreeplan.specs.declared.plan.Place.the-variants.{Main}
+use Rattle.decreeplan.specs.Codes.{placeIn, placesOf, digitPlace}
+use Rattle.decreeplan.proofs.Digits.{rest-more}
+use Rattle.decreeplan.proofs.codes.places.Needs as need
 
 pub loop-i-again : need.loop-i-again
 loop-i-again c =
     let h : c .loop-i .i < length (c .loop-i .places) = omega arith in
-    let p : c .of-digit .result ≡ placeIn (c .args .code) (c .loop-i .i) = c .of-digit .ensures ∙ ap (λ r. digitPlace (r % 3)) (c .loop-i .inv .2) in (
+    let p : c .first .result ≡ placeIn (c .args .code) (c .loop-i .i) = c .first .ensures ∙ ap (λ r. digitPlace (r % 3)) (c .loop-i .inv .2) in (
       simp length-set (c .loop-i .inv .0),
       simp p (fill-by-more (placeIn (c .args .code)) (c .loop-i .places) (c .loop-i .i) Main h (c .loop-i .inv .1)),
       ap (λ r. r / 3) (c .loop-i .inv .2) ∙ sym (rest-more (c .args .code) (c .loop-i .i)),

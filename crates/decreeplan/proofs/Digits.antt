@@ -6,8 +6,8 @@ use native.Mathlib.Numerals.{add-one}
 use native.Mathlib.Omega.{arith}
 use lib.ListN.{getD}
 use Rattle.std.proofs.shelf.Counted.{getD-map-counting}
-use Rattle.decree.specs.declared.plan.Place.the-variants.{Main}
-use Rattle.decree.specs.Codes.{placeIn, placesOf}
+use Rattle.decreeplan.specs.declared.plan.Place.the-variants.{Main}
+use Rattle.decreeplan.specs.Codes.{placeIn, placesOf}
 
 -- what is left of a code behind one digit more
 pub rest-more : (code i : ℕ) → code / 3 ^ (i + 1) ≡ code / 3 ^ i / 3

@@ -1,7 +1,7 @@
 // The numbers of bases and places in a code.
 ghost use mathlib.Core.Path.{_≡_};
 ghost use Rattle.common.specs.Numbering.{Numbered};
-ghost use Rattle.decree.specs.Codes.{baseNumber, baseAt, placeNumber, placeAt};
+ghost use Rattle.decreeplan.specs.Codes.{baseNumber, baseAt, placeNumber, placeAt};
 use crate::plan::Base;
 use crate::plan::Place;
 

@@ -1,9 +1,9 @@
 use Prim.Native.Nat.{ℕ, _/_, _^_, _<_}
 use mathlib.Core.Path.{_≡_}
 use lib.ListN.{length, getD}
-use Rattle.decree.specs.declared.plan.Place.the-variants.{Main}
-use Rattle.decree.specs.Codes.{placeIn}
-use Rattle.decree.proofs.codes.places.Given as given
+use Rattle.decreeplan.specs.declared.plan.Place.the-variants.{Main}
+use Rattle.decreeplan.specs.Codes.{placeIn}
+use Rattle.decreeplan.proofs.codes.places.Given as given
 
 abbrev pub Inv-loop-i : given.InvT-loop-i
 Inv-loop-i l =

@@ -1,18 +1,19 @@
 -- Plans, and the codes that they go by.
+use mathlib.Core.Path.{_≡_}
 use mathlib.Core.Bool.{cond}
 use mathlib.Core.List.{List, map}
 use Prim.Native.Nat.{ℕ, _+_, _*_, _/_, _%_, _^_}
 use lib.Dec.{eqb}
-use lib.ListN.{getD}
+use lib.ListN.{getD, length}
 use Rattle.std.specs.Iters.{counting}
 use Rattle.std.specs.Options.{mapped, valueOr}
 use Rattle.std.specs.declared.option.Option.{Option}
 use Rattle.std.specs.declared.option.Option.the-variants.{Some, None}
 use Rattle.common.specs.Counts.{sumTo}
-use Rattle.decree.specs.declared.plan.Base.{Base}
-use Rattle.decree.specs.declared.plan.Base.the-variants.{Normal, TwoRate, Normal30, TwoRate30, Extended, Extended30}
-use Rattle.decree.specs.declared.plan.Place.{Place}
-use Rattle.decree.specs.declared.plan.Place.the-variants.{Main, ExclusiveNight, PeakShed}
+use Rattle.decreeplan.specs.declared.plan.Base.{Base}
+use Rattle.decreeplan.specs.declared.plan.Base.the-variants.{Normal, TwoRate, Normal30, TwoRate30, Extended, Extended30}
+use Rattle.decreeplan.specs.declared.plan.Place.{Place}
+use Rattle.decreeplan.specs.declared.plan.Place.the-variants.{Main, ExclusiveNight, PeakShed}
 
 abbrev pub baseNumber : Base → ℕ
 baseNumber Normal = 0
@@ -59,3 +60,10 @@ placesOf code = map (placeIn code) (counting 0 6)
 -- the base of a code with its places
 abbrev pub planAt : ℕ → Option (Base × List Place)
 planAt code = mapped (λ b. (b, placesOf code)) (baseOf code)
+
+-- codes and plans correspond: the plan of a code has six places and this code, and no other plan has it; where there is none, no plan has it
+abbrev pub Coded : ℕ → Option (Base × List Place) → Type 0
+Coded code (Some p) =
+    (length (p .1) ≡ 6) × (codeOf (p .0) (p .1) ≡ code)
+    × ((b : Base) (places : List Place) → length places ≡ 6 → codeOf b places ≡ code → (b ≡ p .0) × (places ≡ p .1))
+Coded code None = (b : Base) (places : List Place) → length places ≡ 6 → codeOf b places ≡ code → ⊥

@@ -1,7 +1,9 @@
 // Codes of plans: 729 for each base number, and the number of circuit i's place times 3^i.
 ghost use mathlib.Core.Path.{_≡_};
-ghost use Prim.Native.Nat.{_<_};
-ghost use Rattle.decree.specs.Codes.{baseOf, digitPlace, placesOf, planAt};
+ghost use Prim.Native.Nat.{_%_};
+ghost use lib.Dec.{ltb};
+ghost use Rattle.std.specs.Options.{isSome};
+ghost use Rattle.decreeplan.specs.Codes.{baseOf, digitPlace, placesOf, planAt, Coded};
 use crate::plan::Base;
 use crate::plan::Place;
 
@@ -15,12 +17,11 @@ impl Base {
 }
 
 impl Place {
-    // The place of a digit to the base three.
-    pub(crate) fn of_digit(digit: u64) -> Place
-        requires { ⌜ digit < 3 ⌝ }
-        ensures { λ r. ⌜ r ≡ digitPlace digit ⌝ }
+    // The place of circuit 0 under a code: its lowest digit to the base three. A third of the code has the places of the other circuits.
+    pub fn first(code: u64) -> Place
+        ensures { λ r. ⌜ r ≡ digitPlace (code % 3) ⌝ }
     {
-        match Place::from_number(digit) {
+        match Place::from_number(code % 3) {
             Some(place) => place,
             None => unreachable(),
         }
@@ -34,7 +35,7 @@ fn places(code: u64) -> [Place; 6]
     let mut places = [Place::Main; 6];
     let mut rest = code;
     for i in 0..6usize {
-        places[i] = Place::of_digit(rest % 3);
+        places[i] = Place::first(rest);
         rest /= 3;
     }
     places
@@ -42,7 +43,9 @@ fn places(code: u64) -> [Place; 6]
 
 // The plan of a code: its base and the place of each circuit; none from 4,374 on.
 pub fn places_of(code: u64) -> Option<(Base, [Place; 6])>
-    ensures { λ r. ⌜ r ≡ planAt code ⌝ }
+    ensures value { λ r. ⌜ r ≡ planAt code ⌝ }
+    ensures coded { λ r. ⌜ Coded code r ⌝ }
+    ensures below { λ r. ⌜ isSome r ≡ ltb code 4374 ⌝ }
 {
     match Base::of_code(code) {
         Some(base) => Some((base, places(code))),
