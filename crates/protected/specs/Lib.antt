@@ -1,0 +1,2 @@
+pub mod Social
+pub mod Layer
