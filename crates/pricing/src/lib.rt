@@ -8,3 +8,6 @@ pub use charge::charged_power;
 pub use kwh::Kwh;
 pub use rate::MONTHS_A_YEAR;
 pub use rate::UnitRate;
+pub use rate::UnitRateDebug;
+pub use rate::UnitRateEq;
+pub use rate::UnitRatePartialEq;
