@@ -1,0 +1,50 @@
+// Memory as blocks of one width, one behind the other: what the boards keep their rows in.
+// A board shows at each call that the block lies in its memory; no figure from outside reaches these functions.
+ghost use mathlib.Core.Path.{_≡_};
+ghost use mathlib.Core.List.{_++_};
+ghost use Prim.Native.Nat.{_+_, _*_, _≤_};
+ghost use lib.ListN.{length};
+ghost use Rattle.std.specs.Of.Vec.{vec-len, vec-items};
+ghost use Rattle.blocks.specs.Blocks.{spliced, block, withBlock};
+
+// The block at `index`, of a width.
+pub fn read_block(memory: &Vec<u8>, width: usize, index: usize) -> &[u8]
+    requires { ⌜ width * index + width ≤ vec-len (now memory) ⌝ }
+    ensures value { λ r. ⌜ now r ≡ block width index (vec-items (now (memory .entry))) ⌝ }
+    ensures len { λ r. ⌜ length (now r) ≡ width ⌝ }
+{
+    let start = width * index;
+    &memory.as_slice()[start..start + width]
+}
+
+// Copies bytes over those from `start` on.
+fn splice(memory: &mut Vec<u8>, start: usize, bytes: &[u8])
+    requires { ⌜ start + length (now bytes) ≤ vec-len (now memory) ⌝ }
+    ensures items { λ _. ⌜ vec-items (now (memory .exit)) ≡ spliced start (now (bytes .entry)) (vec-items (now (memory .entry))) ⌝ }
+    ensures len { λ _. ⌜ vec-len (now (memory .exit)) ≡ vec-len (now (memory .entry)) ⌝ }
+{
+    let end = start + bytes.len();
+    memory.as_mut_slice()[start..end].copy_from_slice(bytes);
+}
+
+// Writes a block, a head and then a body, over the one at `index`.
+pub fn write_block(memory: &mut Vec<u8>, index: usize, head: &[u8], body: &[u8])
+    requires { ⌜ (length (now head) + length (now body)) * index + (length (now head) + length (now body)) ≤ vec-len (now memory) ⌝ }
+    ensures items { λ _. ⌜ vec-items (now (memory .exit)) ≡ withBlock (length (now (head .entry)) + length (now (body .entry))) index (now (head .entry) ++ now (body .entry)) (vec-items (now (memory .entry))) ⌝ }
+    ensures len { λ _. ⌜ vec-len (now (memory .exit)) ≡ vec-len (now (memory .entry)) ⌝ }
+{
+    let start = (head.len() + body.len()) * index;
+    splice(memory, start, head);
+    splice(memory, start + head.len(), body);
+}
+
+// Copies the block at `from`, of a width, over the one at `to`.
+pub fn move_block(memory: &mut Vec<u8>, width: usize, from: usize, to: usize)
+    requires from_fits { ⌜ width * from + width ≤ vec-len (now memory) ⌝ }
+    requires to_fits { ⌜ width * to + width ≤ vec-len (now memory) ⌝ }
+    ensures items { λ _. ⌜ vec-items (now (memory .exit)) ≡ withBlock width to (block width from (vec-items (now (memory .entry)))) (vec-items (now (memory .entry))) ⌝ }
+    ensures len { λ _. ⌜ vec-len (now (memory .exit)) ≡ vec-len (now (memory .entry)) ⌝ }
+{
+    let start = width * from;
+    memory.copy_within(start..start + width, width * to);
+}
