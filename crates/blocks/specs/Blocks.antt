@@ -1,7 +1,7 @@
 -- Memory as blocks of one width, one behind the other.
 use mathlib.Core.List.{List, _++_}
-use Prim.Native.Nat.{ℕ, _+_, _*_}
-use lib.ListN.{length, take, drop}
+use Prim.Native.Nat.{ℕ, _+_, _*_, _<_}
+use lib.ListN.{length, getD, take, drop}
 
 -- the i-th block of width w
 abbrev pub block : ℕ → ℕ → List ℕ → List ℕ
@@ -14,3 +14,7 @@ withBlock w i e bytes = take (w * i) bytes ++ (e ++ drop (w * i + w) bytes)
 -- the memory with e from `start` on
 abbrev pub spliced : ℕ → List ℕ → List ℕ → List ℕ
 spliced start e bytes = take start bytes ++ (e ++ drop (start + length e) bytes)
+
+-- every value is a byte
+abbrev pub Bytes : List ℕ → Type 0
+Bytes xs = (k : ℕ) → getD xs k 0 < 256

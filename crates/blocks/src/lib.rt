@@ -5,7 +5,7 @@ ghost use mathlib.Core.List.{_++_};
 ghost use Prim.Native.Nat.{_+_, _*_, _≤_};
 ghost use lib.ListN.{length};
 ghost use Rattle.std.specs.Of.Vec.{vec-len, vec-items};
-ghost use Rattle.blocks.specs.Blocks.{spliced, block, withBlock};
+ghost use Rattle.blocks.specs.Blocks.{spliced, block, withBlock, Bytes};
 
 // The block at `index`, of a width.
 pub fn read_block(memory: &Vec<u8>, width: usize, index: usize) -> &[u8]
@@ -32,6 +32,7 @@ pub fn write_block(memory: &mut Vec<u8>, index: usize, head: &[u8], body: &[u8])
     requires { ⌜ (length (now head) + length (now body)) * index + (length (now head) + length (now body)) ≤ vec-len (now memory) ⌝ }
     ensures items { λ _. ⌜ vec-items (now (memory .exit)) ≡ withBlock (length (now (head .entry)) + length (now (body .entry))) index (now (head .entry) ++ now (body .entry)) (vec-items (now (memory .entry))) ⌝ }
     ensures len { λ _. ⌜ vec-len (now (memory .exit)) ≡ vec-len (now (memory .entry)) ⌝ }
+    ensures bytes { λ _. ⌜ (Bytes (vec-items (now (memory .entry))) → Bytes (vec-items (now (memory .exit)))) ⌝ }
 {
     let start = (head.len() + body.len()) * index;
     splice(memory, start, head);
@@ -44,6 +45,7 @@ pub fn move_block(memory: &mut Vec<u8>, width: usize, from: usize, to: usize)
     requires to_fits { ⌜ width * to + width ≤ vec-len (now memory) ⌝ }
     ensures items { λ _. ⌜ vec-items (now (memory .exit)) ≡ withBlock width to (block width from (vec-items (now (memory .entry)))) (vec-items (now (memory .entry))) ⌝ }
     ensures len { λ _. ⌜ vec-len (now (memory .exit)) ≡ vec-len (now (memory .entry)) ⌝ }
+    ensures bytes { λ _. ⌜ (Bytes (vec-items (now (memory .entry))) → Bytes (vec-items (now (memory .exit)))) ⌝ }
 {
     let start = width * from;
     memory.copy_within(start..start + width, width * to);

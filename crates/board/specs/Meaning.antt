@@ -2,7 +2,7 @@
 use mathlib.Core.Path.{_≡_}
 use mathlib.Core.List.{List, [], _∷_}
 use mathlib.Core.Bool.{Bool, true, false, cond, not, _&&_}
-use Prim.Native.Nat.{ℕ, _+_, _≤_}
+use Prim.Native.Nat.{ℕ, _+_, _≤_, _<_}
 use lib.Dec.{ltb, leb}
 use lib.ListN.{length, getD, set, replicate}
 use Rattle.std.specs.Options.{isSome, valueOr}
@@ -16,6 +16,10 @@ use Rattle.board.specs.declared.fault.BoardFault.the-variants.{Outside, Full}
 -- a row as its bytes
 abbrev pub Row : Type 0
 Row = List ℕ
+
+-- 128 values, each a byte
+abbrev pub Whole : Row → Type 0
+Whole row = (length row ≡ 128) × ((k : ℕ) → getD row k 0 < 256)
 
 -- What a board means: how many numbers it has, how many rows may stand, and for each number a row or none.
 -- Rows are of any kind X, so that a layer which reads them as something else has the same words.
@@ -90,4 +94,4 @@ pub record Lawful (m : BoardMeaning Row) : Type 0 where
   pub most : m .capacity ≤ 4096
   pub long : length (m .rows) ≡ m .capacity
   pub bounded : standing (m .rows) ≤ m .limit
-  pub wide : (n : ℕ) (row : Row) → rowAt m n ≡ Some row → length row ≡ 128
+  pub whole : (n : ℕ) (row : Row) → rowAt m n ≡ Some row → Whole row
