@@ -1,2 +1,3 @@
 pub mod Writes
 pub mod ByteLists
+pub mod Marking

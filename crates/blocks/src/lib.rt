@@ -7,6 +7,10 @@ ghost use lib.ListN.{length};
 ghost use Rattle.std.specs.Of.Vec.{vec-len, vec-items};
 ghost use Rattle.blocks.specs.Blocks.{spliced, block, withBlock, Bytes};
 
+pub mod mark;
+
+pub use mark::Mark;
+
 // The block at `index`, of a width.
 pub fn read_block(memory: &Vec<u8>, width: usize, index: usize) -> &[u8]
     requires { ⌜ width * index + width ≤ vec-len (now memory) ⌝ }
@@ -45,7 +49,6 @@ pub fn move_block(memory: &mut Vec<u8>, width: usize, from: usize, to: usize)
     requires to_fits { ⌜ width * to + width ≤ vec-len (now memory) ⌝ }
     ensures items { λ _. ⌜ vec-items (now (memory .exit)) ≡ withBlock width to (block width from (vec-items (now (memory .entry)))) (vec-items (now (memory .entry))) ⌝ }
     ensures len { λ _. ⌜ vec-len (now (memory .exit)) ≡ vec-len (now (memory .entry)) ⌝ }
-    ensures bytes { λ _. ⌜ (Bytes (vec-items (now (memory .entry))) → Bytes (vec-items (now (memory .exit)))) ⌝ }
 {
     let start = width * from;
     memory.copy_within(start..start + width, width * to);

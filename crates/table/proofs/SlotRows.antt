@@ -2,7 +2,7 @@
 use mathlib.Core.Path.{_≡_, sym, ap, subst, _∙_}
 use mathlib.Core.Logic.{⊎-elim}
 use mathlib.Core.List.{List, _∷_, _++_, map}
-use mathlib.Core.Bool.{true, false, cond}
+use mathlib.Core.Bool.{Bool, true, false, cond}
 use Prim.Native.Nat.{ℕ, _+_, _*_, _≤_, _<_}
 use native.Mathlib.Omega.{arith}
 use lib.Dec.{eqb}
@@ -11,10 +11,11 @@ use Rattle.std.specs.Iters.{counting}
 use Rattle.std.specs.declared.option.Option.{Option}
 use Rattle.std.specs.declared.option.Option.the-variants.{Some, None}
 use Rattle.std.proofs.shelf.Lists.{take-all, length-take, length-drop, length-set, getD-take, getD-drop, getD-set-same, getD-set-other, getD-replicate, getD-past, length-replicate, same-lists}
-use Rattle.std.proofs.shelf.Tests.{eq-eqb, ne-eqb, cases-eq, cases-lt}
+use Rattle.std.proofs.shelf.Tests.{cases-eq, cases-lt}
 use Rattle.std.proofs.shelf.Counted.{length-map-counting, getD-map-counting}
 use Rattle.board.specs.Meaning.{Row, Whole, vacant}
 use Rattle.blocks.specs.Blocks.{block, withBlock, Bytes}
+use Rattle.blocks.specs.Marks.{isRow}
 use Rattle.blocks.proofs.ByteLists.{bytes-block, bytes-drop, getD-zeros}
 use Rattle.blocks.proofs.Writes.{block-here, block-other}
 use Rattle.table.specs.Slots.{slotRow, slotRows}
@@ -27,11 +28,11 @@ module _ (capacity n : ℕ) (bytes s : List ℕ) (inside : n < capacity) (read :
   at : getD (slotRows capacity bytes) n None ≡ slotRow s
   at = getD-map-counting (λ i. slotRow (block 129 i bytes)) 0 capacity n n None inside (omega arith) ∙ ap slotRow (sym read)
 
-  pub slot-none : (getD s 0 0 ≡ 1 → ⊥) → getD (slotRows capacity bytes) n None ≡ None
-  slot-none ne = at ∙ rw (ne-eqb (getD s 0 0) 1 ne)
+  pub slot-none : false ≡ isRow (getD s 0 0) → getD (slotRows capacity bytes) n None ≡ None
+  slot-none no-row = at ∙ ap (λ b. cond b (Some (drop 1 s)) None) (sym no-row)
 
-  pub slot-some : getD s 0 0 ≡ 1 → length s ≡ 129 → getD (slotRows capacity bytes) n None ≡ Some (take 128 (drop 1 s))
-  slot-some eq long = at ∙ rw (eq-eqb (getD s 0 0) 1 eq) (ap Some (sym (take-all 128 (drop 1 s) (rw (length-drop, long) (omega arith)))))
+  pub slot-some : true ≡ isRow (getD s 0 0) → length s ≡ 129 → getD (slotRows capacity bytes) n None ≡ Some (take 128 (drop 1 s))
+  slot-some row long = at ∙ ap (λ b. cond b (Some (drop 1 s)) None) (sym row) ∙ ap Some (sym (take-all 128 (drop 1 s) (rw (length-drop, long) (omega arith))))
 
 -- a slot written at i
 pub slotRows-put : (capacity i : ℕ) (s bytes : List ℕ) → i < capacity → 129 * capacity ≤ length bytes → length s ≡ 129
@@ -65,13 +66,11 @@ slotRows-zeros capacity n =
 
 row-whole : (s : List ℕ) (row : Row) → length s ≡ 129 → Bytes s → slotRow s ≡ Some row → Whole row
 row-whole s row long bytes e =
-    ⊎-elim
-    (λ (q : getD s 0 0 ≡ 1).
-    let f : Some (drop 1 s) ≡ Some row = rw (eq-eqb (getD s 0 0) 1 q) at e in
-    let g : drop 1 s ≡ row = cc in
-    (omega (arith, ap length g, length-drop 1 s), subst Bytes g (bytes-drop 1 s bytes)))
-    (λ (q : getD s 0 0 ≡ 1 → ⊥). let f : None ≡ Some row = rw (ne-eqb (getD s 0 0) 1 q) at e in let z : _≡_ {A = ℕ} 0 1 = cc in absurd (omega arith))
-    (cases-eq (getD s 0 0) 1)
+    let by : (b : Bool) → cond b (Some (drop 1 s)) None ≡ Some row → Whole row = λ b. elim b as (λ v. cond v (Some (drop 1 s)) None ≡ Some row → Whole row) [
+      | true ↦ λ f. let g : drop 1 s ≡ row = cc in (omega (arith, ap length g, length-drop 1 s), subst Bytes g (bytes-drop 1 s bytes))
+      | false ↦ λ f. let z : _≡_ {A = ℕ} 0 1 = cc in absurd (omega arith)
+    ] in
+    by (isRow (getD s 0 0)) e
 
 -- every row has 128 bytes
 pub slotRows-whole : (capacity : ℕ) (bytes : List ℕ) → 129 * capacity ≤ length bytes → Bytes bytes → (n : ℕ) (row : Row) → getD (slotRows capacity bytes) n None ≡ Some row → Whole row

@@ -2,21 +2,21 @@
 use mathlib.Core.List.{List, map}
 use mathlib.Core.Bool.{Bool, cond, _&&_}
 use Prim.Native.Nat.{ℕ, _*_}
-use lib.Dec.{eqb, leb}
+use lib.Dec.{leb}
 use lib.ListN.{getD, drop}
 use Rattle.std.specs.Iters.{counting}
 use Rattle.std.specs.declared.option.Option.{Option}
-use Rattle.std.specs.declared.option.Option.the-variants.{Some, None}
 use Rattle.std.specs.declared.result.Result.{Result}
 use Rattle.std.specs.declared.result.Result.the-variants.{Ok, Err}
 use Rattle.board.specs.declared.fault.BoardFault.{BoardFault}
 use Rattle.board.specs.declared.fault.BoardFault.the-variants.{Unfit}
 use Rattle.board.specs.Meaning.{Row}
 use Rattle.blocks.specs.Blocks.{block}
+use Rattle.blocks.specs.Marks.{held}
 
 -- a mark and a row; any mark but 1 says that no row stands
 abbrev pub slotRow : List ℕ → Option Row
-slotRow s = cond (eqb (getD s 0 0) 1) (Some (drop 1 s)) None
+slotRow s = held (getD s 0 0) (drop 1 s)
 
 -- the rows of the first `capacity` slots
 abbrev pub slotRows : ℕ → List ℕ → List (Option Row)

@@ -1,15 +1,15 @@
 // The calls on a table board.
 ghost use mathlib.Core.Path.{_≡_};
-ghost use mathlib.Core.List.{_∷_};
 ghost use mathlib.Core.Bool.{false};
 ghost use Prim.Native.Nat.{_<_};
 ghost use lib.ListN.{length};
 ghost use Rattle.std.specs.Options.{mapped};
 ghost use Rattle.std.specs.Slices.{found};
 ghost use Rattle.board.specs.Meaning.{rowAt, withRow, full};
-ghost use Rattle.table.specs.Slots.{slotRow};
+ghost use Rattle.blocks.specs.Marks.{marked};
 ghost use Rattle.table.specs.Tables.{tableMeaning};
 use crate::table::Table;
+use blocks::Mark;
 use blocks::read_block;
 use blocks::write_block;
 use board::Board;
@@ -31,19 +31,19 @@ impl Table {
         ensures len { λ r. ⌜ found r (λ x. length (now x) ≡ 128) ⌝ }
     {
         let slot = read_block(&self.memory, SLOT, number as usize);
-        if slot[0] != ROW {
+        if !Mark::is_row(slot[0]) {
             return None;
         }
         Some(&slot[1..SLOT])
     }
 
     // Writes the slot of a number. No call finds a table full.
-    fn write_slot(&mut self, number: u64, mark: u8, row: &[u8; 128])
+    fn write_slot(&mut self, number: u64, mark: Mark, row: &[u8; 128])
         requires inside { ⌜ number < now self .capacity ⌝ }
-        ensures after { λ _. ⌜ tableMeaning (now (self .exit)) ≡ withRow (tableMeaning (now (self .entry))) number (slotRow (mark ∷ now (row .entry))) ⌝ }
+        ensures after { λ _. ⌜ tableMeaning (now (self .exit)) ≡ withRow (tableMeaning (now (self .entry))) number (marked mark (now (row .entry))) ⌝ }
         ensures room { λ _. ⌜ full (tableMeaning (now (self .entry))) number ≡ false ⌝ }
     {
-        write_block(&mut self.memory, number as usize, &[mark], row);
+        write_block(&mut self.memory, number as usize, &[mark.byte()], row);
     }
 }
 
@@ -75,7 +75,7 @@ pub impl Board for Table as TableBoard {
         if number >= self.capacity {
             return Err(BoardFault::Outside(number));
         }
-        self.write_slot(number, ROW, row);
+        self.write_slot(number, Mark::Row, row);
         Ok(())
     }
 
@@ -83,7 +83,7 @@ pub impl Board for Table as TableBoard {
         if number >= self.capacity {
             return Err(BoardFault::Outside(number));
         }
-        self.write_slot(number, NONE, &[0; 128]);
+        self.write_slot(number, Mark::NoRow, &[0; 128]);
         Ok(())
     }
 }

@@ -5,11 +5,11 @@ use Rattle.std.specs.Of.Vec.{vec-items}
 use Rattle.table.proofs.SlotRows.{slot-none, slot-some}
 use Rattle.table.proofs.table.Table.row_at.Needs as need
 
-pub returns-then-slot-ne-ROW : need.returns-then-slot-ne-ROW
-returns-then-slot-ne-ROW c =
+pub returns-then-not-is-row : need.returns-then-not-is-row
+returns-then-not-is-row c =
     let b = c .args .self .now in
     record {
-      value = sym (slot-none (b .capacity) (c .args .number) (vec-items (b .memory)) (c .read-block-slot .result .now) (c .pre .inside) (c .read-block-slot .ensures .value) (c .if-slot-ne-ROW .taken));
+      value = sym (slot-none (b .capacity) (c .args .number) (vec-items (b .memory)) (c .read-block-slot .result .now) (c .pre .inside) (c .read-block-slot .ensures .value) (c .if-not-is-row .ensures tt));
       len = tt;
     }
 
@@ -17,6 +17,6 @@ pub returns : need.returns
 returns c =
     let b = c .args .self .now in
     record {
-      value = sym (slot-some (b .capacity) (c .args .number) (vec-items (b .memory)) (c .read-block-slot .result .now) (c .pre .inside) (c .read-block-slot .ensures .value) (c .if-slot-ne-ROW .left) (c .read-block-slot .ensures .len));
+      value = sym (slot-some (b .capacity) (c .args .number) (vec-items (b .memory)) (c .read-block-slot .result .now) (c .pre .inside) (c .read-block-slot .ensures .value) (c .if-not-is-row .ensures tt) (c .read-block-slot .ensures .len));
       len = simp (length-take, length-drop) (omega (arith, c .read-block-slot .ensures .len));
     }

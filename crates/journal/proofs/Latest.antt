@@ -1,0 +1,105 @@
+-- What the index of a journal leads to, and what one entry more does.
+use mathlib.Core.Path.{_≡_, refl, sym, ap, subst, _∙_}
+use mathlib.Core.Logic.{⊎-elim}
+use mathlib.Core.List.{List, [], _∷_, _++_, map}
+use mathlib.Core.Bool.{true, false, cond}
+use Prim.Native.Nat.{ℕ, _+_, _-_, _*_, _/_, _%_, _≤_, _<_}
+use native.Mathlib.Omega.{arith}
+use lib.Dec.{eqb}
+use lib.ListN.{length, getD, set, take, drop, replicate}
+use Rattle.std.specs.Iters.{counting}
+use Rattle.std.specs.declared.option.Option.the-variants.{Some, None}
+use Rattle.std.proofs.shelf.Lists.{getD-set-same, getD-set-other, getD-replicate, take-all, length-take, length-drop, length-set, length-replicate, getD-past}
+use Rattle.std.proofs.shelf.Tests.{cases-eq, cases-lt, ne-eqb}
+use Rattle.std.proofs.shelf.Counted.{length-map-counting, getD-map-counting}
+use Rattle.board.specs.Meaning.{Row, Whole, vacant}
+use Rattle.blocks.specs.Blocks.{block, withBlock, Bytes}
+use Rattle.blocks.specs.declared.mark.Mark.{Mark}
+use Rattle.blocks.specs.Marks.{isRow, markByte, marked, held}
+use Rattle.blocks.proofs.Marking.{held-marked}
+use Rattle.blocks.proofs.ByteLists.{bytes-block}
+use Rattle.journal.specs.Replay.{Note, replayed, indexedFrom, indexed, noteAt}
+use Rattle.journal.specs.Entries.{noteOf, notes, entryRows}
+use Rattle.journal.proofs.Replaying.{latest-decides, replayed-push, indexed-push, rows-long}
+use Rattle.journal.proofs.Noting.{length-notes, notes-push, note-whole}
+
+index-below : (n : ℕ) (es : List Note) (k : ℕ) (index : List ℕ) → n < length index → getD index n 0 ≤ k → getD (indexedFrom k index es) n 0 ≤ k + length es
+index-below n [] k index h b = omega arith
+index-below n (e ∷ es) k index h b =
+    let here : getD (set index (e .0) (k + 1)) n 0 ≤ k + 1 =
+    ⊎-elim
+    (λ (q : e .0 ≡ n). let s : getD (set index (e .0) (k + 1)) n 0 ≡ k + 1 = rw q (getD-set-same index n (k + 1) 0 h) in omega arith)
+    (λ (q : e .0 ≡ n → ⊥). omega (arith, getD-set-other index (e .0) n (k + 1) 0 (λ p. q (sym p))))
+    (cases-eq (e .0) n) in
+    omega (arith, index-below n es (k + 1) (set index (e .0) (k + 1)) (simp length-set h) here)
+
+-- the index is read at n, and gives `place`
+module _ (capacity size n used : ℕ) (bytes index : List ℕ) (place : ℕ) (under : capacity ≤ size) (inside : n < capacity) (is : index ≡ indexed size (notes used bytes)) (there : place ≡ getD index n 0) where
+  place-is : place ≡ getD (indexed size (notes used bytes)) n 0
+  place-is = there ∙ ap (λ (x : List ℕ). getD x n 0) is
+
+  pub place-within : place ≤ used
+  place-within =
+      let z : _≡_ {A = ℕ} (getD (replicate size 0) n 0) 0 = getD-replicate size n 0 0 (omega arith) in
+      omega (arith, place-is, index-below n (notes used bytes) 0 (replicate size 0) (simp length-replicate (omega arith)) (omega (arith, z)), length-notes used bytes)
+
+  decides : getD (entryRows capacity used bytes) n None ≡ noteAt (notes used bytes) place
+  decides = latest-decides capacity size n (notes used bytes) under inside ∙ ap (noteAt (notes used bytes)) (sym place-is)
+
+  pub row-none : place ≡ 0 → getD (entryRows capacity used bytes) n None ≡ None
+  row-none z = decides ∙ ap (noteAt (notes used bytes)) z
+
+  at-place : (place ≡ 0 → ⊥) → getD (entryRows capacity used bytes) n None ≡ (noteOf (block 131 (place - 1) bytes)) .1
+  at-place ne =
+      decides ∙ rw (ne-eqb place 0 ne)
+      (ap (λ (x : Note). x .1) (getD-map-counting (λ i. noteOf (block 131 i bytes)) 0 used (place - 1) (place - 1) (0, None) (omega (arith, place-within)) (omega arith)))
+
+  -- the entry e is read there
+  module _ (e : List ℕ) (read : e ≡ block 131 (place - 1) bytes) (ne : place ≡ 0 → ⊥) where
+    pub row-cleared : false ≡ isRow (getD e 0 0) → getD (entryRows capacity used bytes) n None ≡ None
+    row-cleared no-row = at-place ne ∙ ap (λ (x : List ℕ). (noteOf x) .1) (sym read) ∙ ap (λ b. cond b (Some (drop 3 e)) None) (sym no-row)
+
+    pub row-found : true ≡ isRow (getD e 0 0) → length e ≡ 131 → getD (entryRows capacity used bytes) n None ≡ Some (take 128 (drop 3 e))
+    row-found row long =
+        at-place ne ∙ ap (λ (x : List ℕ). (noteOf x) .1) (sym read) ∙ ap (λ b. cond b (Some (drop 3 e)) None) (sym row)
+        ∙ ap Some (sym (take-all 128 (drop 3 e) (rw (length-drop, long) (omega arith))))
+
+-- every row has 128 bytes
+pub rows-whole : (capacity size used : ℕ) (bytes : List ℕ) → capacity ≤ size → 131 * used ≤ length bytes → Bytes bytes → (n : ℕ) (row : Row) → getD (entryRows capacity used bytes) n None ≡ Some row → Whole row
+rows-whole capacity size used bytes under fits small n row e =
+    let index = indexed size (notes used bytes) in
+    let place = getD index n 0 in
+    let none : getD (entryRows capacity used bytes) n None ≡ None → Whole row = λ h. let z : _≡_ {A = ℕ} 0 1 = cc in absurd (omega arith) in
+    ⊎-elim
+    (λ (h : n < capacity).
+    ⊎-elim
+    (λ (z : place ≡ 0). none (row-none capacity size n used bytes index place under h refl refl z))
+    (λ (ne : place ≡ 0 → ⊥).
+    let within : place ≤ used = place-within capacity size n used bytes index place under h refl refl in
+    note-whole (block 131 (place - 1) bytes) row (simp (length-take, length-drop) (omega (arith, ne))) (bytes-block 131 (place - 1) bytes small) (sym (at-place capacity size n used bytes index place under h refl refl ne) ∙ e))
+    (cases-eq place 0))
+    (λ (h : capacity ≤ n). none (getD-past (entryRows capacity used bytes) n None (rw (rows-long capacity (notes used bytes)) h)))
+    (cases-lt n capacity)
+
+-- one entry more, with this mark, of the number n
+module _ (capacity size n used : ℕ) (mark : Mark) (byte : ℕ) (row bytes later : List ℕ) (fits : 131 * used + 131 ≤ length bytes) (whole : length row ≡ 128) (by : byte ≡ markByte mark)
+    (is : later ≡ withBlock (3 + length row) used (byte ∷ (n / 256 ∷ (n % 256 ∷ row))) bytes) where
+  says : noteOf (byte ∷ (n / 256 ∷ (n % 256 ∷ row))) ≡ (n, marked mark row)
+  says =
+      let number : 256 * (n / 256) + n % 256 ≡ n = omega arith in
+      ap (λ x. (x, held byte row)) number ∙ ap (λ x. (n, held x row)) by ∙ ap (λ x. (n, x)) (held-marked mark row)
+
+  push : notes (used + 1) later ≡ notes used bytes ++ (n, marked mark row) ∷ []
+  push =
+      let e : List ℕ = byte ∷ (n / 256 ∷ (n % 256 ∷ row)) in
+      let wide : 3 + length row ≡ 131 = omega arith in
+      ap (notes (used + 1)) (is ∙ ap (λ w. withBlock w used e bytes) wide) ∙ notes-push used e bytes fits (omega arith) ∙ ap (λ x. notes used bytes ++ x ∷ []) says
+
+  pub rows-after : entryRows capacity (used + 1) later ≡ set (entryRows capacity used bytes) n (marked mark row)
+  rows-after = ap (replayed (vacant capacity)) push ∙ replayed-push (vacant capacity) (notes used bytes) (n, marked mark row)
+
+  pub index-after : (index : List ℕ) → index ≡ indexed size (notes used bytes) → set index n (used + 1) ≡ indexed size (notes (used + 1) later)
+  index-after index i =
+      let count : 0 + length (notes used bytes) + 1 ≡ used + 1 = omega (arith, length-notes used bytes) in
+      ap (λ x. set x n (used + 1)) i
+      ∙ sym (ap (indexed size) push ∙ indexed-push (notes used bytes) 0 (replicate size 0) (n, marked mark row) ∙ ap (set (indexed size (notes used bytes)) n) count)

@@ -1,0 +1,39 @@
+-- What a journal means: its notes in order, the latest for a number deciding.
+use mathlib.Core.List.{List, [], _∷_}
+use mathlib.Core.Bool.{Bool, true, false, cond, _||_}
+use Prim.Native.Nat.{ℕ, _+_, _-_}
+use lib.Dec.{eqb}
+use lib.ListN.{getD, set, replicate}
+use Rattle.std.specs.Iters.{folded}
+use Rattle.std.specs.declared.option.Option.{Option}
+use Rattle.std.specs.declared.option.Option.the-variants.{None}
+use Rattle.board.specs.Meaning.{Row}
+
+-- what one entry says: a number, and the row that stands there from then on, or none
+abbrev pub Note : Type 0
+Note = ℕ × Option Row
+
+abbrev pub noted : List (Option Row) → Note → List (Option Row)
+noted rows e = set rows (e .0) (e .1)
+
+-- the rows after the notes es, where `rows` stood before
+abbrev pub replayed : List (Option Row) → List Note → List (Option Row)
+replayed rows es = folded noted rows es
+
+-- for each number, one more than the place of the latest note of it, or 0: k notes stand before es
+abbrev pub indexedFrom : ℕ → List ℕ → List Note → List ℕ
+indexedFrom k index [] = index
+indexedFrom k index (e ∷ es) = indexedFrom (k + 1) (set index (e .0) (k + 1)) es
+
+-- the same for `size` numbers, from the first note on
+abbrev pub indexed : ℕ → List Note → List ℕ
+indexed size es = indexedFrom 0 (replicate size 0) es
+
+-- some note speaks of n
+abbrev pub speaks : ℕ → List Note → Bool
+speaks n [] = false
+speaks n (e ∷ es) = eqb (e .0) n || speaks n es
+
+-- what the note at one less than `place` says, and none at 0
+abbrev pub noteAt : List Note → ℕ → Option Row
+noteAt es place = cond (eqb place 0) None ((getD es (place - 1) (0, None)) .1)
