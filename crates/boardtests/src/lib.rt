@@ -203,25 +203,32 @@ mod tests {
 
     #[test]
     fn figures_of_a_table() -> Result<(), Fail> {
-        check(TablePlan::check(1, 129).is_ok())?;
-        check(TablePlan::check(4096, LAST).is_ok())?;
-        refuses(TablePlan::check(0, 129), 22, 129)?;
-        refuses(TablePlan::check(4097, LAST), 22, LAST)?;
-        refuses(TablePlan::check(LAST, 129), 22, 129)?;
-        refuses(TablePlan::check(2, 257), 22, 257)
+        for (capacity, len) in [(1, 129), (4096, LAST)] {
+            TablePlan::check(capacity, len)?;
+        }
+        for (capacity, len) in [(0, 129), (2, 257), (4097, LAST), (LAST, 129)] {
+            refuses(TablePlan::check(capacity, len), 22, len)?;
+        }
+        Ok(())
     }
 
     #[test]
     fn figures_of_a_journal() -> Result<(), Fail> {
-        check(JournalPlan::check(1, 1, 262).is_ok())?;
-        check(JournalPlan::check(4096, 4096, 65535 * 131 + 130).is_ok())?;
-        refuses(JournalPlan::check(0, 0, 262), 22, 262)?;
-        refuses(JournalPlan::check(4097, 1, 262), 22, 262)?;
-        refuses(JournalPlan::check(4096, 0, 262), 22, 262)?;
-        refuses(JournalPlan::check(1, 2, 1310), 22, 1310)?;
-        refuses(JournalPlan::check(LAST, LAST, LAST), 22, LAST)?;
-        refuses(JournalPlan::check(1, 1, 261), 22, 261)?;
-        refuses(JournalPlan::check(1, 1, 65536 * 131), 22, 65536 * 131)
+        for (capacity, limit, len) in [(1, 1, 262), (4096, 4096, 65535 * 131 + 130)] {
+            JournalPlan::check(capacity, limit, len)?;
+        }
+        for (capacity, limit, len) in [
+            (0, 0, 262),
+            (1, 1, 261),
+            (1, 2, 1310),
+            (4096, 0, 262),
+            (4097, 1, 262),
+            (1, 1, 65536 * 131),
+            (LAST, LAST, LAST),
+        ] {
+            refuses(JournalPlan::check(capacity, limit, len), 22, len)?;
+        }
+        Ok(())
     }
 
     #[test]

@@ -18,33 +18,18 @@ use Rattle.blocks.specs.declared.mark.Mark.{Mark}
 use Rattle.blocks.specs.Marks.{isRow, markByte, marked, held}
 use Rattle.blocks.proofs.Marking.{held-marked}
 use Rattle.blocks.proofs.ByteLists.{bytes-block}
-use Rattle.journal.specs.Replay.{Note, replayed, indexedFrom, indexed, noteAt}
+use Rattle.journal.specs.Replay.{Note, replayed, indexed, Leads, noteAt}
 use Rattle.journal.specs.Entries.{noteOf, notes, entryRows}
-use Rattle.journal.proofs.Replaying.{latest-decides, replayed-push, indexed-push, rows-long}
+use Rattle.journal.proofs.Replaying.{latest-decides, replayed-push, indexed-push, indexed-below, length-indexed, rows-long}
 use Rattle.journal.proofs.Noting.{length-notes, notes-push, note-whole}
 
-index-below : (n : ℕ) (es : List Note) (k : ℕ) (index : List ℕ) → n < length index → getD index n 0 ≤ k → getD (indexedFrom k index es) n 0 ≤ k + length es
-index-below n [] k index h b = omega arith
-index-below n (e ∷ es) k index h b =
-    let here : getD (set index (e .0) (k + 1)) n 0 ≤ k + 1 =
-    ⊎-elim
-    (λ (q : e .0 ≡ n). let s : getD (set index (e .0) (k + 1)) n 0 ≡ k + 1 = rw q (getD-set-same index n (k + 1) 0 h) in omega arith)
-    (λ (q : e .0 ≡ n → ⊥). omega (arith, getD-set-other index (e .0) n (k + 1) 0 (λ p. q (sym p))))
-    (cases-eq (e .0) n) in
-    omega (arith, index-below n es (k + 1) (set index (e .0) (k + 1)) (simp length-set h) here)
-
 -- the index is read at n, and gives `place`
-module _ (capacity size n used : ℕ) (bytes index : List ℕ) (place : ℕ) (under : capacity ≤ size) (inside : n < capacity) (is : index ≡ indexed size (notes used bytes)) (there : place ≡ getD index n 0) where
-  place-is : place ≡ getD (indexed size (notes used bytes)) n 0
-  place-is = there ∙ ap (λ (x : List ℕ). getD x n 0) is
-
+module _ (capacity n used : ℕ) (bytes : List ℕ) (place : ℕ) (inside : n < capacity) (there : place ≡ getD (indexed capacity (notes used bytes)) n 0) where
   pub place-within : place ≤ used
-  place-within =
-      let z : _≡_ {A = ℕ} (getD (replicate size 0) n 0) 0 = getD-replicate size n 0 0 (omega arith) in
-      omega (arith, place-is, index-below n (notes used bytes) 0 (replicate size 0) (simp length-replicate (omega arith)) (omega (arith, z)), length-notes used bytes)
+  place-within = omega (arith, there, indexed-below capacity n (notes used bytes) inside, length-notes used bytes)
 
   decides : getD (entryRows capacity used bytes) n None ≡ noteAt (notes used bytes) place
-  decides = latest-decides capacity size n (notes used bytes) under inside ∙ ap (noteAt (notes used bytes)) (sym place-is)
+  decides = latest-decides capacity n (notes used bytes) inside ∙ ap (noteAt (notes used bytes)) (sym there)
 
   pub row-none : place ≡ 0 → getD (entryRows capacity used bytes) n None ≡ None
   row-none z = decides ∙ ap (noteAt (notes used bytes)) z
@@ -65,24 +50,23 @@ module _ (capacity size n used : ℕ) (bytes index : List ℕ) (place : ℕ) (un
         ∙ ap Some (sym (take-all 128 (drop 3 e) (rw (length-drop, long) (omega arith))))
 
 -- every row has 128 bytes
-pub rows-whole : (capacity size used : ℕ) (bytes : List ℕ) → capacity ≤ size → 131 * used ≤ length bytes → Bytes bytes → (n : ℕ) (row : Row) → getD (entryRows capacity used bytes) n None ≡ Some row → Whole row
-rows-whole capacity size used bytes under fits small n row e =
-    let index = indexed size (notes used bytes) in
-    let place = getD index n 0 in
+pub rows-whole : (capacity used : ℕ) (bytes : List ℕ) → 131 * used ≤ length bytes → Bytes bytes → (n : ℕ) (row : Row) → getD (entryRows capacity used bytes) n None ≡ Some row → Whole row
+rows-whole capacity used bytes fits small n row e =
+    let place = getD (indexed capacity (notes used bytes)) n 0 in
     let none : getD (entryRows capacity used bytes) n None ≡ None → Whole row = λ h. let z : _≡_ {A = ℕ} 0 1 = cc in absurd (omega arith) in
     ⊎-elim
     (λ (h : n < capacity).
     ⊎-elim
-    (λ (z : place ≡ 0). none (row-none capacity size n used bytes index place under h refl refl z))
+    (λ (z : place ≡ 0). none (row-none capacity n used bytes place h refl z))
     (λ (ne : place ≡ 0 → ⊥).
-    let within : place ≤ used = place-within capacity size n used bytes index place under h refl refl in
-    note-whole (block 131 (place - 1) bytes) row (simp (length-take, length-drop) (omega (arith, ne))) (bytes-block 131 (place - 1) bytes small) (sym (at-place capacity size n used bytes index place under h refl refl ne) ∙ e))
+    let within : place ≤ used = place-within capacity n used bytes place h refl in
+    note-whole (block 131 (place - 1) bytes) row (simp (length-take, length-drop) (omega (arith, ne))) (bytes-block 131 (place - 1) bytes small) (sym (at-place capacity n used bytes place h refl ne) ∙ e))
     (cases-eq place 0))
     (λ (h : capacity ≤ n). none (getD-past (entryRows capacity used bytes) n None (rw (rows-long capacity (notes used bytes)) h)))
     (cases-lt n capacity)
 
 -- one entry more, with this mark, of the number n
-module _ (capacity size n used : ℕ) (mark : Mark) (byte : ℕ) (row bytes later : List ℕ) (fits : 131 * used + 131 ≤ length bytes) (whole : length row ≡ 128) (by : byte ≡ markByte mark)
+module _ (capacity n used : ℕ) (mark : Mark) (byte : ℕ) (row bytes later : List ℕ) (fits : 131 * used + 131 ≤ length bytes) (whole : length row ≡ 128) (by : byte ≡ markByte mark)
     (is : later ≡ withBlock (3 + length row) used (byte ∷ (n / 256 ∷ (n % 256 ∷ row))) bytes) where
   says : noteOf (byte ∷ (n / 256 ∷ (n % 256 ∷ row))) ≡ (n, marked mark row)
   says =
@@ -98,8 +82,15 @@ module _ (capacity size n used : ℕ) (mark : Mark) (byte : ℕ) (row bytes late
   pub rows-after : entryRows capacity (used + 1) later ≡ set (entryRows capacity used bytes) n (marked mark row)
   rows-after = ap (replayed (vacant capacity)) push ∙ replayed-push (vacant capacity) (notes used bytes) (n, marked mark row)
 
-  pub index-after : (index : List ℕ) → index ≡ indexed size (notes used bytes) → set index n (used + 1) ≡ indexed size (notes (used + 1) later)
-  index-after index i =
-      let count : 0 + length (notes used bytes) + 1 ≡ used + 1 = omega (arith, length-notes used bytes) in
-      ap (λ x. set x n (used + 1)) i
-      ∙ sym (ap (indexed size) push ∙ indexed-push (notes used bytes) 0 (replicate size 0) (n, marked mark row) ∙ ap (set (indexed size (notes used bytes)) n) count)
+  pub index-after : (index : List ℕ) → capacity ≤ length index → Leads capacity index (notes used bytes) → Leads capacity (set index n (used + 1)) (notes (used + 1) later)
+  index-after index wide leads k h =
+      let was = indexed capacity (notes used bytes) in
+      let long : length was ≡ capacity = length-indexed (notes used bytes) 0 (replicate capacity 0) ∙ length-replicate capacity 0 in
+      let is : indexed capacity (notes (used + 1) later) ≡ set was n (0 + length (notes used bytes) + 1) = ap (indexed capacity) push ∙ indexed-push (notes used bytes) 0 (replicate capacity 0) (n, marked mark row) in
+      ⊎-elim
+      (λ (q : k ≡ n).
+      let here : getD (set index n (used + 1)) n 0 ≡ used + 1 = getD-set-same index n (used + 1) 0 (omega arith) in
+      let there : getD (indexed capacity (notes (used + 1) later)) n 0 ≡ 0 + length (notes used bytes) + 1 = ap (λ (x : List ℕ). getD x n 0) is ∙ getD-set-same was n (0 + length (notes used bytes) + 1) 0 (omega arith) in
+      rw q (omega (arith, here, there, length-notes used bytes)))
+      (λ (q : k ≡ n → ⊥). getD-set-other index n k (used + 1) 0 q ∙ leads k h ∙ sym (ap (λ (x : List ℕ). getD x k 0) is ∙ getD-set-other was n k (0 + length (notes used bytes) + 1) 0 q))
+      (cases-eq k n)

@@ -104,12 +104,11 @@ found n (e ∷ es) past rows index h i was =
     rw (joins, long) at ih
 
 -- reading by the index is reading what stands
-pub latest-decides : (capacity size n : ℕ) (es : List Note) → capacity ≤ size → n < capacity → getD (replayed (vacant capacity) es) n None ≡ noteAt es (getD (indexed size es) n 0)
-latest-decides capacity size n es under h =
-    let h′ : n < size = omega arith in
-    let z : _≡_ {A = ℕ} (getD (replicate size 0) n 0) 0 = getD-replicate size n 0 0 h′ in
-    let start : getD (vacant capacity) n None ≡ noteAt es (getD (replicate size 0) n 0) = getD-replicate capacity n None None h ∙ sym (ap (noteAt es) z) in
-    found n es [] (vacant capacity) (replicate size 0) (simp length-replicate h) (simp length-replicate h′) start
+pub latest-decides : (capacity n : ℕ) (es : List Note) → n < capacity → getD (replayed (vacant capacity) es) n None ≡ noteAt es (getD (indexed capacity es) n 0)
+latest-decides capacity n es h =
+    let z : _≡_ {A = ℕ} (getD (replicate capacity 0) n 0) 0 = getD-replicate capacity n 0 0 h in
+    let start : getD (vacant capacity) n None ≡ noteAt es (getD (replicate capacity 0) n 0) = getD-replicate capacity n None None h ∙ sym (ap (noteAt es) z) in
+    found n es [] (vacant capacity) (replicate capacity 0) (simp length-replicate h) (simp length-replicate h) start
 
 pub indexed-append : (xs ys : List Note) (k : ℕ) (index : List ℕ) → indexedFrom k index (xs ++ ys) ≡ indexedFrom (k + length xs) (indexedFrom k index xs) ys
 indexed-append [] ys k index = ap (λ m. indexedFrom m index ys) (sym (add-zero k))
@@ -120,5 +119,26 @@ indexed-append (x ∷ xs) ys k index =
 pub rows-long : (capacity : ℕ) (es : List Note) → length (replayed (vacant capacity) es) ≡ capacity
 rows-long capacity es = length-replayed es (vacant capacity) ∙ length-replicate capacity None
 
-pub index-long : (capacity : ℕ) (es : List Note) → length (indexed capacity es) ≡ capacity
-index-long capacity es = length-indexed es 0 (replicate capacity 0) ∙ length-replicate capacity 0
+-- the index leads to no place behind the notes
+index-below : (n : ℕ) (es : List Note) (k : ℕ) (index : List ℕ) → n < length index → getD index n 0 ≤ k → getD (indexedFrom k index es) n 0 ≤ k + length es
+index-below n [] k index h b = omega arith
+index-below n (e ∷ es) k index h b =
+    let here : getD (set index (e .0) (k + 1)) n 0 ≤ k + 1 =
+    ⊎-elim
+    (λ (q : e .0 ≡ n). let s : getD (set index (e .0) (k + 1)) n 0 ≡ k + 1 = rw q (getD-set-same index n (k + 1) 0 h) in omega arith)
+    (λ (q : e .0 ≡ n → ⊥). omega (arith, getD-set-other index (e .0) n (k + 1) 0 (λ p. q (sym p))))
+    (cases-eq (e .0) n) in
+    omega (arith, index-below n es (k + 1) (set index (e .0) (k + 1)) (simp length-set h) here)
+
+pub indexed-below : (capacity n : ℕ) (es : List Note) → n < capacity → getD (indexed capacity es) n 0 ≤ length es
+indexed-below capacity n es h =
+    let z : _≡_ {A = ℕ} (getD (replicate capacity 0) n 0) 0 = getD-replicate capacity n 0 0 h in
+    omega (arith, index-below n es 0 (replicate capacity 0) (simp length-replicate h) (omega (arith, z)))
+
+-- and to none, if no note speaks of the number
+pub indexed-none : (capacity n : ℕ) (es : List Note) → n < capacity → speaks n es ≡ false → getD (indexed capacity es) n 0 ≡ 0
+indexed-none capacity n es h none =
+    ⊎-elim
+    (λ (t : (speaks n es ≡ false) × (getD (indexed capacity es) n 0 ≡ getD (replicate capacity 0) n 0)). t .1 ∙ getD-replicate capacity n 0 0 h)
+    (λ (t : (speaks n es ≡ true) × (0 < getD (indexed capacity es) n 0)). let z : _≡_ {A = ℕ} 0 1 = cc (t .0, none) in absurd (omega arith))
+    (index-tells n es 0 (replicate capacity 0) (simp length-replicate h))

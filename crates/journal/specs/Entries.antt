@@ -6,13 +6,14 @@ use lib.Dec.{eqb, ltb, leb}
 use lib.ListN.{getD, drop}
 use Rattle.std.specs.Iters.{counting}
 use Rattle.std.specs.declared.option.Option.{Option}
+use Rattle.std.specs.declared.option.Option.the-variants.{Some, None}
 use Rattle.std.specs.declared.result.Result.{Result}
 use Rattle.std.specs.declared.result.Result.the-variants.{Ok, Err}
 use Rattle.board.specs.declared.fault.BoardFault.{BoardFault}
 use Rattle.board.specs.declared.fault.BoardFault.the-variants.{Unfit}
 use Rattle.board.specs.Meaning.{Row, vacant}
 use Rattle.blocks.specs.Blocks.{block}
-use Rattle.blocks.specs.Marks.{isRow, held}
+use Rattle.blocks.specs.Marks.{held}
 use Rattle.journal.specs.Replay.{Note, replayed}
 
 -- the number that an entry speaks of, its high byte first
@@ -31,9 +32,9 @@ notes used bytes = map (λ i. noteOf (block 131 i bytes)) (counting 0 used)
 abbrev pub entryRows : ℕ → ℕ → List ℕ → List (Option Row)
 entryRows capacity used bytes = replayed (vacant capacity) (notes used bytes)
 
--- the entry e at a place is not stale: it holds a row of a number of the board, and the index has no later entry of that number
-abbrev pub current : ℕ → List ℕ → List ℕ → ℕ → Bool
-current capacity index e place = ltb (entryNumber e) capacity && eqb (getD index (entryNumber e) 0) (place + 1) && isRow (getD e 0 0)
+-- the number of the entry e at a place, if it is a number of the board and the index has no later entry of it
+abbrev pub latestNumber : ℕ → List ℕ → List ℕ → ℕ → Option ℕ
+latestNumber capacity index e place = cond (ltb (entryNumber e) capacity && eqb (getD index (entryNumber e) 0) (place + 1)) (Some (entryNumber e)) None
 
 -- a journal board takes 1 to 4,096 numbers, a limit of 1 to as many rows, and a memory with an entry more than the limit or up to 65,535
 abbrev pub journalTakes : ℕ → ℕ → ℕ → Bool

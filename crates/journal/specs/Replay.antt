@@ -1,7 +1,8 @@
 -- What a journal means: its notes in order, the latest for a number deciding.
+use mathlib.Core.Path.{_≡_}
 use mathlib.Core.List.{List, [], _∷_}
 use mathlib.Core.Bool.{Bool, true, false, cond, _||_}
-use Prim.Native.Nat.{ℕ, _+_, _-_}
+use Prim.Native.Nat.{ℕ, _+_, _-_, _<_}
 use lib.Dec.{eqb}
 use lib.ListN.{getD, set, replicate}
 use Rattle.std.specs.Iters.{folded}
@@ -25,9 +26,13 @@ abbrev pub indexedFrom : ℕ → List ℕ → List Note → List ℕ
 indexedFrom k index [] = index
 indexedFrom k index (e ∷ es) = indexedFrom (k + 1) (set index (e .0) (k + 1)) es
 
--- the same for `size` numbers, from the first note on
+-- the same for `capacity` numbers, from the first note on
 abbrev pub indexed : ℕ → List Note → List ℕ
-indexed size es = indexedFrom 0 (replicate size 0) es
+indexed capacity es = indexedFrom 0 (replicate capacity 0) es
+
+-- the index leads to the latest note of each number
+abbrev pub Leads : ℕ → List ℕ → List Note → Type 0
+Leads capacity index es = (n : ℕ) → n < capacity → getD index n 0 ≡ getD (indexed capacity es) n 0
 
 -- some note speaks of n
 abbrev pub speaks : ℕ → List Note → Bool

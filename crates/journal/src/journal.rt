@@ -4,7 +4,7 @@ ghost use Prim.Native.Nat.{_*_, _<_, _≤_};
 ghost use Rattle.std.specs.Of.Vec.{vec-len, vec-items};
 ghost use Rattle.board.specs.Meaning.{standing};
 ghost use Rattle.blocks.specs.Blocks.{Bytes};
-ghost use Rattle.journal.specs.Replay.{indexed};
+ghost use Rattle.journal.specs.Replay.{Leads};
 ghost use Rattle.journal.specs.Entries.{notes, entryRows};
 
 pub mod calls;
@@ -30,7 +30,7 @@ pub struct Journal {
     ghost fits: { 131 * places ≤ vec-len memory },
     ghost bytes: { Bytes (vec-items memory) },
     ghost within: { used ≤ places },
-    ghost index: { latest ≡ indexed 4096 (notes used (vec-items memory)) },
+    ghost index: { Leads capacity latest (notes used (vec-items memory)) },
     ghost count: { filled ≡ standing (entryRows capacity used (vec-items memory)) },
     ghost bounded: { filled ≤ limit },
 }

@@ -10,7 +10,6 @@ ghost use Rattle.blocks.specs.Marks.{marked};
 ghost use Rattle.journal.specs.Journals.{journalMeaning};
 use crate::entries::ENTRY;
 use crate::entries::drop_stale;
-use crate::entries::reindex;
 use crate::journal::Journal;
 use blocks::Mark;
 use blocks::read_block;
@@ -42,8 +41,7 @@ impl Journal {
         ensures room { λ _. ⌜ now (self .exit) .used < now (self .exit) .places ⌝ }
     {
         if self.used == self.places {
-            self.used = drop_stale(&mut self.memory, &self.latest, self.capacity, self.used);
-            reindex(&mut self.latest, &self.memory, self.used);
+            self.used = drop_stale(&mut self.memory, &mut self.latest, self.capacity, self.used);
         }
     }
 

@@ -15,5 +15,5 @@ lawful-law b =
       most = b .few;
       long = rows-long (b .capacity) (notes (b .used) bytes);
       bounded = omega (arith, b .count, b .bounded);
-      whole = rows-whole (b .capacity) 4096 (b .used) bytes (b .few) (omega (arith, b .within, b .fits, b .memory .ok .0)) (b .bytes);
+      whole = rows-whole (b .capacity) (b .used) bytes (omega (arith, b .within, b .fits, b .memory .ok .0)) (b .bytes);
     }
