@@ -7,7 +7,7 @@ use native.Mathlib.Omega.{arith}
 use lib.ListN.{length, getD, take, drop, replicate}
 use Rattle.std.proofs.shelf.Lists.{getD-take, getD-drop, getD-past, getD-append-left, getD-append-right, getD-replicate, length-take, length-replicate}
 use Rattle.std.proofs.shelf.Tests.{cases-lt}
-use Rattle.blocks.specs.Blocks.{Bytes, block, withBlock}
+use Rattle.blocks.specs.Blocks.{Bytes, block, withBytes}
 
 pub bytes-append : (xs ys : List ℕ) → Bytes xs → Bytes ys → Bytes (xs ++ ys)
 bytes-append xs ys p q k =
@@ -26,10 +26,10 @@ bytes-take n xs p k =
 pub bytes-drop : (n : ℕ) (xs : List ℕ) → Bytes xs → Bytes (drop n xs)
 bytes-drop n xs p k = omega (arith, getD-drop n xs k 0, p (n + k))
 
-pub bytes-withBlock : (w i : ℕ) (e bytes : List ℕ) → Bytes e → Bytes bytes → Bytes (withBlock w i e bytes)
-bytes-withBlock w i e bytes p q =
-    bytes-append (take (w * i) bytes) (e ++ drop (w * i + w) bytes) (bytes-take (w * i) bytes q)
-    (bytes-append e (drop (w * i + w) bytes) p (bytes-drop (w * i + w) bytes q))
+pub bytes-with : (start w : ℕ) (e bytes : List ℕ) → Bytes e → Bytes bytes → Bytes (withBytes start w e bytes)
+bytes-with start w e bytes p q =
+    bytes-append (take start bytes) (e ++ drop (start + w) bytes) (bytes-take start bytes q)
+    (bytes-append e (drop (start + w) bytes) p (bytes-drop (start + w) bytes q))
 
 pub bytes-block : (w i : ℕ) (bytes : List ℕ) → Bytes bytes → Bytes (block w i bytes)
 bytes-block w i bytes q = bytes-take w (drop (w * i) bytes) (bytes-drop (w * i) bytes q)

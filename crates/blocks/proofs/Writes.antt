@@ -15,7 +15,7 @@ use Rattle.std.specs.declared.alloc.Global.{Global}
 use Rattle.std.proofs.shelf.Lists.{refilled-is, drop-drop, same-lists, getD-take, getD-drop, getD-append-left, getD-append-right, length-take-le, length-take, length-drop, length-append, take-at, drop-at, append-assoc}
 use Rattle.std.proofs.shelf.Counted.{length-map-counting, getD-map-counting}
 use Rattle.std.proofs.shelf.Tests.{cases-lt}
-use Rattle.blocks.specs.Blocks.{block, withBlock, spliced}
+use Rattle.blocks.specs.Blocks.{bytesAt, withBytes, block, withBlock}
 
 -- a later block begins behind an earlier one
 apart : (w i j : ℕ) → i < j → w * i + w ≤ w * j
@@ -67,34 +67,35 @@ mapped-same f g n h =
     getD-map-counting f 0 n k k d kn (omega arith) ∙ h k kn ∙ sym (getD-map-counting g 0 n k k d kn (omega arith)))
 
 -- `memory.as_mut_slice()[start..end].copy_from_slice(e)` as the checker reads it
-pub put-spliced : (v : Vec ℕ Global) (start k : ℕ) (xs ys e : List ℕ) → start + length e ≤ v .len → xs ≡ v .items → ys ≡ e → k ≡ length e
-    → refilled v (putMid start k xs ys) .items ≡ spliced start e (v .items)
-put-spliced v start k xs ys e fits p q r =
+pub put-bytes : (v : Vec ℕ Global) (start k : ℕ) (xs ys e : List ℕ) → start + length e ≤ v .len → xs ≡ v .items → ys ≡ e → k ≡ length e
+    → refilled v (putMid start k xs ys) .items ≡ withBytes start (length e) e (v .items)
+put-bytes v start k xs ys e fits p q r =
     let d : drop k (drop start xs) ≡ drop (start + k) xs = drop-drop k start xs in
-    let is : putMid start k xs ys ≡ spliced start e (v .items) = cc in
-    let l : length (spliced start e (v .items)) ≡ length (v .items) = simp (length-append, length-take, length-drop) (omega (arith, v .ok .0)) in
+    let is : putMid start k xs ys ≡ withBytes start (length e) e (v .items) = cc in
+    let l : length (withBytes start (length e) e (v .items)) ≡ length (v .items) = simp (length-append, length-take, length-drop) (omega (arith, v .ok .0)) in
     refilled-is v (putMid start k xs ys) (ap length is ∙ l ∙ sym (v .ok .0)) ∙ is
 
 -- a body written behind a head
-pub spliced-twice : (start : ℕ) (head body bytes : List ℕ) → start + length head ≤ length bytes
-    → spliced (start + length head) body (spliced start head bytes) ≡ take start bytes ++ ((head ++ body) ++ drop (start + (length head + length body)) bytes)
-spliced-twice start head body bytes fits =
+pub written-both : (start : ℕ) (head body bytes : List ℕ) → start + length head ≤ length bytes
+    → withBytes (start + length head) (length body) body (withBytes start (length head) head bytes) ≡ withBytes start (length head + length body) (head ++ body) bytes
+written-both start head body bytes fits =
     let a = take start bytes in
+    let once = withBytes start (length head) head bytes in
     let rest = drop (start + length head) bytes in
-    let whole : spliced start head bytes ≡ (a ++ head) ++ rest = sym (append-assoc a head rest) in
+    let last = drop (start + (length head + length body)) bytes in
+    let whole : withBytes start (length head) head bytes ≡ (a ++ head) ++ rest = sym (append-assoc a head rest) in
     let long : length (a ++ head) ≡ start + length head = length-append a head ∙ ap (λ n. n + length head) (length-take-le start bytes (omega arith)) in
-    let front : take (start + length head) (spliced start head bytes) ≡ a ++ head = ap (take (start + length head)) whole ∙ take-at (a ++ head) rest (start + length head) long in
-    let back : drop (start + length head + length body) (spliced start head bytes) ≡ drop (start + (length head + length body)) bytes =
-    sym (drop-drop (length body) (start + length head) (spliced start head bytes))
+    let front : take (start + length head) once ≡ a ++ head = ap (take (start + length head)) whole ∙ take-at (a ++ head) rest (start + length head) long in
+    let back : drop (start + length head + length body) once ≡ last =
+    sym (drop-drop (length body) (start + length head) once)
     ∙ ap (drop (length body)) (ap (drop (start + length head)) whole ∙ drop-at (a ++ head) rest (start + length head) long)
     ∙ drop-drop (length body) (start + length head) bytes
     ∙ ap (λ n. drop n bytes) (omega arith) in
-    ap (λ x. x ++ (body ++ drop (start + length head + length body) (spliced start head bytes))) front
+    ap (λ x. x ++ (body ++ drop (start + length head + length body) once)) front
     ∙ ap (λ x. (a ++ head) ++ (body ++ x)) back
-    ∙ append-assoc a head (body ++ drop (start + (length head + length body)) bytes)
-    ∙ ap (λ x. a ++ x) (sym (append-assoc head body (drop (start + (length head + length body)) bytes)))
+    ∙ append-assoc a head (body ++ last)
+    ∙ ap (λ x. a ++ x) (sym (append-assoc head body last))
 
--- one block copied over another
-pub pasted-block : (w from to n : ℕ) (bytes : List ℕ) → n ≡ w → paste bytes (w * to) (drop (w * from) bytes) n ≡ withBlock w to (block w from bytes) bytes
-pasted-block w from to n bytes e =
-    ap (paste bytes (w * to) (drop (w * from) bytes)) e ∙ append-assoc (take (w * to) bytes) (block w from bytes) (drop (w * to + w) bytes)
+-- `memory.copy_within(from..from + w, to)` as its contract has it
+pub pasted-bytes : (w from to n : ℕ) (bytes : List ℕ) → n ≡ w → paste bytes to (drop from bytes) n ≡ withBytes to w (bytesAt from w bytes) bytes
+pasted-bytes w from to n bytes e = ap (paste bytes to (drop from bytes)) e ∙ append-assoc (take to bytes) (bytesAt from w bytes) (drop (to + w) bytes)

@@ -1,19 +1,23 @@
 -- Memory as blocks of one width, one behind the other.
 use mathlib.Core.List.{List, _++_}
 use Prim.Native.Nat.{ℕ, _+_, _*_, _<_}
-use lib.ListN.{length, getD, take, drop}
+use lib.ListN.{getD, take, drop}
+
+-- the w bytes from `start` on
+abbrev pub bytesAt : ℕ → ℕ → List ℕ → List ℕ
+bytesAt start w bytes = take w (drop start bytes)
+
+-- the memory with e in place of the w bytes from `start` on
+abbrev pub withBytes : ℕ → ℕ → List ℕ → List ℕ → List ℕ
+withBytes start w e bytes = take start bytes ++ (e ++ drop (start + w) bytes)
 
 -- the i-th block of width w
 abbrev pub block : ℕ → ℕ → List ℕ → List ℕ
-block w i bytes = take w (drop (w * i) bytes)
+block w i bytes = bytesAt (w * i) w bytes
 
 -- the memory with e in place of its i-th block
 abbrev pub withBlock : ℕ → ℕ → List ℕ → List ℕ → List ℕ
-withBlock w i e bytes = take (w * i) bytes ++ (e ++ drop (w * i + w) bytes)
-
--- the memory with e from `start` on
-abbrev pub spliced : ℕ → List ℕ → List ℕ → List ℕ
-spliced start e bytes = take start bytes ++ (e ++ drop (start + length e) bytes)
+withBlock w i e bytes = withBytes (w * i) w e bytes
 
 -- every value is a byte
 abbrev pub Bytes : List ℕ → Type 0

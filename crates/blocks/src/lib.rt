@@ -5,7 +5,7 @@ ghost use mathlib.Core.List.{_++_};
 ghost use Prim.Native.Nat.{_+_, _*_, _≤_};
 ghost use lib.ListN.{length};
 ghost use Rattle.std.specs.Of.Vec.{vec-len, vec-items};
-ghost use Rattle.blocks.specs.Blocks.{spliced, block, withBlock, Bytes};
+ghost use Rattle.blocks.specs.Blocks.{bytesAt, withBytes, block, withBlock, Bytes};
 
 pub mod mark;
 
@@ -21,14 +21,25 @@ pub fn read_block(memory: &Vec<u8>, width: usize, index: usize) -> &[u8]
     &memory.as_slice()[start..start + width]
 }
 
-// Copies bytes over those from `start` on.
-fn splice(memory: &mut Vec<u8>, start: usize, bytes: &[u8])
+// Writes bytes over those from `start` on.
+fn write_bytes(memory: &mut Vec<u8>, start: usize, bytes: &[u8])
     requires { ⌜ start + length (now bytes) ≤ vec-len (now memory) ⌝ }
-    ensures items { λ _. ⌜ vec-items (now (memory .exit)) ≡ spliced start (now (bytes .entry)) (vec-items (now (memory .entry))) ⌝ }
+    ensures items { λ _. ⌜ vec-items (now (memory .exit)) ≡ withBytes start (length (now (bytes .entry))) (now (bytes .entry)) (vec-items (now (memory .entry))) ⌝ }
     ensures len { λ _. ⌜ vec-len (now (memory .exit)) ≡ vec-len (now (memory .entry)) ⌝ }
 {
     let end = start + bytes.len();
     memory.as_mut_slice()[start..end].copy_from_slice(bytes);
+}
+
+// Writes a head and then a body from `start` on.
+fn write_both(memory: &mut Vec<u8>, start: usize, head: &[u8], body: &[u8])
+    requires { ⌜ start + (length (now head) + length (now body)) ≤ vec-len (now memory) ⌝ }
+    ensures items { λ _. ⌜ vec-items (now (memory .exit)) ≡ withBytes start (length (now (head .entry)) + length (now (body .entry))) (now (head .entry) ++ now (body .entry)) (vec-items (now (memory .entry))) ⌝ }
+    ensures len { λ _. ⌜ vec-len (now (memory .exit)) ≡ vec-len (now (memory .entry)) ⌝ }
+    ensures bytes { λ _. ⌜ (Bytes (vec-items (now (memory .entry))) → Bytes (vec-items (now (memory .exit)))) ⌝ }
+{
+    write_bytes(memory, start, head);
+    write_bytes(memory, start + head.len(), body);
 }
 
 // Writes a block, a head and then a body, over the one at `index`.
@@ -38,9 +49,18 @@ pub fn write_block(memory: &mut Vec<u8>, index: usize, head: &[u8], body: &[u8])
     ensures len { λ _. ⌜ vec-len (now (memory .exit)) ≡ vec-len (now (memory .entry)) ⌝ }
     ensures bytes { λ _. ⌜ (Bytes (vec-items (now (memory .entry))) → Bytes (vec-items (now (memory .exit)))) ⌝ }
 {
-    let start = (head.len() + body.len()) * index;
-    splice(memory, start, head);
-    splice(memory, start + head.len(), body);
+    let width = head.len() + body.len();
+    write_both(memory, width * index, head, body);
+}
+
+// Copies `width` bytes from one start to another.
+fn move_bytes(memory: &mut Vec<u8>, width: usize, from: usize, to: usize)
+    requires from_fits { ⌜ from + width ≤ vec-len (now memory) ⌝ }
+    requires to_fits { ⌜ to + width ≤ vec-len (now memory) ⌝ }
+    ensures items { λ _. ⌜ vec-items (now (memory .exit)) ≡ withBytes to width (bytesAt from width (vec-items (now (memory .entry)))) (vec-items (now (memory .entry))) ⌝ }
+    ensures len { λ _. ⌜ vec-len (now (memory .exit)) ≡ vec-len (now (memory .entry)) ⌝ }
+{
+    memory.copy_within(from..from + width, to);
 }
 
 // Copies the block at `from`, of a width, over the one at `to`.
@@ -50,6 +70,5 @@ pub fn move_block(memory: &mut Vec<u8>, width: usize, from: usize, to: usize)
     ensures items { λ _. ⌜ vec-items (now (memory .exit)) ≡ withBlock width to (block width from (vec-items (now (memory .entry)))) (vec-items (now (memory .entry))) ⌝ }
     ensures len { λ _. ⌜ vec-len (now (memory .exit)) ≡ vec-len (now (memory .entry)) ⌝ }
 {
-    let start = width * from;
-    memory.copy_within(start..start + width, width * to);
+    move_bytes(memory, width, width * from, width * to);
 }

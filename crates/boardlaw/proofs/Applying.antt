@@ -1,16 +1,13 @@
 -- A list of changes made one after the other, with the answers in their place.
 use mathlib.Core.Path.{_≡_, refl, sym, ap, subst, _∙_}
 use mathlib.Core.List.{List, [], _∷_, _++_}
-use mathlib.Core.Bool.{Bool, true, cond}
 use Prim.Native.Nat.{ℕ, _+_, _≤_, _<_}
 use native.Mathlib.Omega.{arith}
-use lib.Dec.{leb}
 use lib.ListN.{length, getD, set, take, drop}
 use Rattle.std.proofs.shelf.Lists.{append-assoc, take-append-drop, take-more-set, drop-drop, drop-set-lt, length-set, at-drop-more, at-drop-all, append-nil}
-use Rattle.std.proofs.shelf.Tests.{le-leb}
 use Rattle.board.specs.Meaning.{BoardMeaning, Row}
 use Rattle.boardlaw.specs.declared.change.Change.{Change}
-use Rattle.boardlaw.specs.Changes.{Answer, changeAnswer, changed, answersOf, changedAll, placed, applied}
+use Rattle.boardlaw.specs.Changes.{Answer, changeAnswer, changed, answersOf, changedAll}
 use Rattle.boardlaw.specs.History.{History, told, BoardLaw}
 use Rattle.boardlaw.proofs.Keeping.{law-all}
 
@@ -50,23 +47,14 @@ told-front t m (x ∷ changes) rest = told-front ((x, changeAnswer m x) ∷ t) (
 
 -- all are made
 module _ (first m : BoardMeaning Row) (changes : List Change) (before answers : List Answer) (i : ℕ) (a : Applying first m changes before answers i) (end : i ≡ length changes) (room : length changes ≤ length before) where
-  answers-are : answers ≡ answersOf first changes ++ drop (length changes) before
+  pub answers-are : answers ≡ answersOf first changes ++ drop (length changes) before
   answers-are =
       let front : take i answers ≡ answersOf first changes =
       sym (append-nil (take i answers)) ∙ ap (λ (ys : List Answer). take i answers ++ ys) (sym (at-drop-all (answersOf m) changes i (omega arith))) ∙ a .given in
       sym (take-append-drop i answers) ∙ ap (λ (ys : List Answer). ys ++ drop i answers) front ∙ ap (λ (ys : List Answer). answersOf first changes ++ ys) (a .rest ∙ ap (λ n. drop n before) end)
 
-  board-is : m ≡ changedAll first changes
+  pub board-is : m ≡ changedAll first changes
   board-is = sym (at-drop-all (changedAll m) changes i (omega arith)) ∙ a .after
-
-  pub fits : true ≡ leb (length changes) (length before)
-  fits = sym (le-leb (length changes) (length before) room)
-
-  pub place-after : answers ≡ placed first changes before
-  place-after = answers-are ∙ ap (λ b. cond b (answersOf first changes ++ drop (length changes) before) before) fits
-
-  pub board-after : m ≡ applied first changes before
-  board-after = board-is ∙ ap (λ b. cond b (changedAll first changes) first) fits
 
   pub law-after : (c l : ℕ) (t : History) → BoardLaw c l t first → BoardLaw c l (told t changes answers) m
   law-after c l t law =

@@ -15,7 +15,7 @@ use Rattle.board.specs.Meaning.{Row, standing}
 use Rattle.blocks.specs.Blocks.{block, withBlock, Bytes}
 use Rattle.blocks.specs.Marks.{isRow}
 use Rattle.blocks.proofs.Writes.{block-other, length-withBlock}
-use Rattle.blocks.proofs.ByteLists.{bytes-block, bytes-withBlock}
+use Rattle.blocks.proofs.ByteLists.{bytes-block, bytes-with}
 use Rattle.journal.specs.Replay.{Note, Leads}
 use Rattle.journal.specs.Entries.{entryNumber, noteOf, notes, entryRows, latestNumber}
 use Rattle.journal.proofs.Noting.{length-notes, notes-push}
@@ -71,7 +71,7 @@ module _ (capacity used : ℕ) (bytes held index : List ℕ) (kept place : ℕ) 
         packing =
             subst P (sym (notes-push kept e held fit block-long))
             (subst Q (length-notes kept held) (packing-keep capacity (notes used bytes) place ahead (noteOf e) read (notes kept held) index (s .packing) (drop 3 e) inside latest (ap (λ b. cond b (Some (drop 3 e)) None) row)));
-        small = λ p. bytes-withBlock 131 kept e held (bytes-block 131 place held (s .small p)) (s .small p);
+        small = λ p. bytes-with (131 * kept) 131 e held (bytes-block 131 place held (s .small p)) (s .small p);
         rest = λ i h j. block-other 131 kept e held fit block-long i (λ q. omega (arith, s .behind)) (omega (arith, s .long)) ∙ s .rest i (omega arith) j;
       }
 

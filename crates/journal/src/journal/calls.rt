@@ -1,11 +1,12 @@
 // The calls on a journal board.
 ghost use mathlib.Core.Path.{_≡_};
 ghost use mathlib.Core.Bool.{false};
-ghost use Prim.Native.Nat.{_<_, _≤_};
+ghost use Prim.Native.Nat.{_/_, _<_, _≤_};
 ghost use lib.ListN.{length, set};
+ghost use Rattle.std.specs.Of.Vec.{vec-len};
 ghost use Rattle.std.specs.Options.{isSome, mapped};
 ghost use Rattle.std.specs.Slices.{found};
-ghost use Rattle.board.specs.Meaning.{rowAt, withRow, full, standing};
+ghost use Rattle.board.specs.Meaning.{empty, rowAt, withRow, full, standing};
 ghost use Rattle.blocks.specs.Marks.{marked};
 ghost use Rattle.journal.specs.Journals.{journalMeaning};
 use crate::entries::ENTRY;
@@ -18,6 +19,28 @@ use board::Board;
 use board::BoardFault;
 
 impl Journal {
+    // A board without rows over a memory, whatever it held.
+    pub(crate) fn without_rows(mut memory: Vec<u8>, capacity: u64, limit: u64) -> Journal
+        requires some { ⌜ 1 ≤ limit ⌝ }
+        requires under { ⌜ limit ≤ capacity ⌝ }
+        requires few { ⌜ capacity ≤ 4096 ⌝ }
+        requires spare { ⌜ limit < vec-len memory / 131 ⌝ }
+        requires most { ⌜ vec-len memory / 131 ≤ 65535 ⌝ }
+        ensures { λ r. ⌜ journalMeaning r ≡ empty capacity limit ⌝ }
+    {
+        memory.fill(0);
+        let places = memory.len() / ENTRY;
+        Journal {
+            memory,
+            latest: [0; 4096],
+            capacity,
+            limit,
+            places,
+            used: 0,
+            filled: 0,
+        }
+    }
+
     // The row of a number.
     fn row_at(&self, number: u64) -> Option<&[u8]>
         requires inside { ⌜ number < now self .capacity ⌝ }

@@ -7,7 +7,6 @@ ghost use Rattle.std.specs.declared.result.Result.the-variants.{Ok, Err};
 ghost use Rattle.board.specs.Meaning.{empty};
 ghost use Rattle.journal.specs.Entries.{journalCheck};
 ghost use Rattle.journal.specs.Journals.{journalMeaning};
-use crate::entries::ENTRY;
 use crate::journal::Journal;
 use board::BoardFault;
 
@@ -64,21 +63,6 @@ impl JournalPlan {
     pub fn make(self) -> Journal
         ensures { λ r. ⌜ journalMeaning r ≡ empty (self .capacity) (self .limit) ⌝ }
     {
-        let JournalPlan {
-            mut memory,
-            capacity,
-            limit,
-        } = self;
-        memory.fill(0);
-        let places = memory.len() / ENTRY;
-        Journal {
-            memory,
-            latest: [0; 4096],
-            capacity,
-            limit,
-            places,
-            used: 0,
-            filled: 0,
-        }
+        Journal::without_rows(self.memory, self.capacity, self.limit)
     }
 }

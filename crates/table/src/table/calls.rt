@@ -1,11 +1,12 @@
 // The calls on a table board.
 ghost use mathlib.Core.Path.{_≡_};
 ghost use mathlib.Core.Bool.{false};
-ghost use Prim.Native.Nat.{_<_};
+ghost use Prim.Native.Nat.{_*_, _<_, _≤_};
 ghost use lib.ListN.{length};
+ghost use Rattle.std.specs.Of.Vec.{vec-len};
 ghost use Rattle.std.specs.Options.{mapped};
 ghost use Rattle.std.specs.Slices.{found};
-ghost use Rattle.board.specs.Meaning.{rowAt, withRow, full};
+ghost use Rattle.board.specs.Meaning.{empty, rowAt, withRow, full};
 ghost use Rattle.blocks.specs.Marks.{marked};
 ghost use Rattle.table.specs.Tables.{tableMeaning};
 use crate::table::Table;
@@ -24,6 +25,17 @@ const ROW: u8 = 1;
 const NONE: u8 = 0;
 
 impl Table {
+    // A board without rows over a memory, whatever it held.
+    pub(crate) fn without_rows(mut memory: Vec<u8>, capacity: u64) -> Table
+        requires some { ⌜ 1 ≤ capacity ⌝ }
+        requires few { ⌜ capacity ≤ 4096 ⌝ }
+        requires fits { ⌜ 129 * capacity ≤ vec-len memory ⌝ }
+        ensures { λ r. ⌜ tableMeaning r ≡ empty capacity capacity ⌝ }
+    {
+        memory.fill(0);
+        Table { memory, capacity }
+    }
+
     // The row of a number.
     fn row_at(&self, number: u64) -> Option<&[u8]>
         requires inside { ⌜ number < now self .capacity ⌝ }

@@ -45,11 +45,6 @@ impl TablePlan {
     pub fn make(self) -> Table
         ensures { λ r. ⌜ tableMeaning r ≡ empty (self .capacity) (self .capacity) ⌝ }
     {
-        let TablePlan {
-            mut memory,
-            capacity,
-        } = self;
-        memory.fill(0);
-        Table { memory, capacity }
+        Table::without_rows(self.memory, self.capacity)
     }
 }
