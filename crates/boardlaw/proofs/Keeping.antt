@@ -1,13 +1,12 @@
 -- Every change keeps the law.
 use mathlib.Core.Path.{_≡_, refl, sym, ap, _∙_}
 use mathlib.Core.Logic.{⊎-elim}
-use mathlib.Core.List.{List, [], _∷_, map}
+use mathlib.Core.List.{List, [], _∷_}
 use mathlib.Core.Bool.{Bool, true, false, cond, not, _&&_}
-use Prim.Native.Nat.{ℕ, _+_, _≤_, _<_}
+use Prim.Native.Nat.{ℕ, _≤_, _<_}
 use native.Mathlib.Omega.{arith}
 use lib.Dec.{eqb, ltb, leb}
 use lib.ListN.{length, getD, set}
-use Rattle.std.specs.Iters.{counting}
 use Rattle.std.specs.Options.{isSome}
 use Rattle.std.specs.Results.{isOk}
 use Rattle.std.specs.declared.option.Option.{Option}
@@ -17,7 +16,7 @@ use Rattle.std.proofs.shelf.Lists.{length-set, length-replicate, getD-set-same,
 use Rattle.std.proofs.shelf.Counted.{fill-by-all}
 use Rattle.std.proofs.shelf.Tests.{cases-eq, cases-lt, eq-eqb, ne-eqb, le-leb, lt-leb, ltb-true, cond-true, cond-false}
 use Rattle.board.specs.declared.fault.BoardFault.the-variants.{Outside, Full}
-use Rattle.board.specs.Meaning.{BoardMeaning, Row, rowAt, inside, full, withRow, one, standing, vacant, empty}
+use Rattle.board.specs.Meaning.{BoardMeaning, Row, rowAt, inside, full, withRow, standing, vacant, empty}
 use Rattle.board.proofs.Standing.{standing-set, standing-vacant}
 use Rattle.board.proofs.Rooms.{not-full}
 use Rattle.boardlaw.specs.declared.change.Change.{Change}

@@ -1,17 +1,15 @@
 -- What the index of a journal leads to, and what one entry more does.
-use mathlib.Core.Path.{_≡_, refl, sym, ap, subst, _∙_}
+use mathlib.Core.Path.{_≡_, refl, sym, ap, _∙_}
 use mathlib.Core.Logic.{⊎-elim}
-use mathlib.Core.List.{List, [], _∷_, _++_, map}
+use mathlib.Core.List.{List, [], _∷_, _++_}
 use mathlib.Core.Bool.{true, false, cond}
 use Prim.Native.Nat.{ℕ, _+_, _-_, _*_, _/_, _%_, _≤_, _<_}
 use native.Mathlib.Omega.{arith}
-use lib.Dec.{eqb}
 use lib.ListN.{length, getD, set, take, drop, replicate}
-use Rattle.std.specs.Iters.{counting}
 use Rattle.std.specs.declared.option.Option.the-variants.{Some, None}
-use Rattle.std.proofs.shelf.Lists.{getD-set-same, getD-set-other, getD-replicate, take-all, length-take, length-drop, length-set, length-replicate, getD-past}
+use Rattle.std.proofs.shelf.Lists.{getD-set-same, getD-set-other, take-all, length-take, length-drop, length-replicate, getD-past}
 use Rattle.std.proofs.shelf.Tests.{cases-eq, cases-lt, ne-eqb}
-use Rattle.std.proofs.shelf.Counted.{length-map-counting, getD-map-counting}
+use Rattle.std.proofs.shelf.Counted.{getD-map-counting}
 use Rattle.board.specs.Meaning.{Row, Whole, vacant}
 use Rattle.blocks.specs.Blocks.{block, withBlock, Bytes}
 use Rattle.blocks.specs.declared.mark.Mark.{Mark}

@@ -2,16 +2,14 @@
 use mathlib.Core.Path.{_≡_, refl, sym, ap, subst, _∙_}
 use mathlib.Core.Logic.{_⊎_, inl, inr, ⊎-elim}
 use mathlib.Core.List.{List, [], _∷_, _++_}
-use mathlib.Core.Bool.{Bool, true, false, cond, _||_}
-use Prim.Native.Nat.{ℕ, zero, suc, _+_, _-_, _≤_, _<_}
-use native.Mathlib.Nat.{add-zero, zero-add}
+use mathlib.Core.Bool.{true, false, cond}
+use Prim.Native.Nat.{ℕ, _+_, _≤_, _<_}
+use native.Mathlib.Nat.{zero-add}
 use native.Mathlib.Omega.{arith}
 use lib.Dec.{eqb, ltb}
 use lib.ListN.{length, getD, set, replicate, take, drop}
-use Rattle.std.specs.Iters.{folded}
-use Rattle.std.specs.declared.option.Option.{Option}
 use Rattle.std.specs.declared.option.Option.the-variants.{Some, None}
-use Rattle.std.proofs.shelf.Lists.{set-past, set-getD, getD-set-same, getD-set-other, length-set, getD-replicate, length-replicate, append-assoc, length-push, take-append-drop, drop-more, drop-all, length-take-le}
+use Rattle.std.proofs.shelf.Lists.{set-past, set-getD, getD-set-same, getD-set-other, length-set, getD-replicate, length-replicate, length-push, take-append-drop, drop-more, drop-all, length-take-le}
 use Rattle.std.proofs.shelf.Tests.{cases-eq, cases-lt, ne-eqb, lt-ltb, le-ltb, cond-true, cond-false, or-from, or-parts}
 use Rattle.board.specs.Meaning.{Row, vacant, one, standing}
 use Rattle.board.proofs.Standing.{standing-set, standing-vacant}

@@ -1,19 +1,18 @@
 -- Replaying notes: what a later note hides, what the index tells, and what one note more does.
-use mathlib.Core.Path.{_≡_, refl, sym, ap, subst, _∙_}
+use mathlib.Core.Path.{_≡_, refl, sym, ap, _∙_}
 use mathlib.Core.Logic.{_⊎_, inl, inr, ⊎-elim}
 use mathlib.Core.List.{List, [], _∷_, _++_}
-use mathlib.Core.Bool.{Bool, true, false, cond, _||_}
-use Prim.Native.Nat.{ℕ, zero, suc, _+_, _-_, _≤_, _<_}
-use native.Mathlib.Nat.{add-zero, zero-add}
+use mathlib.Core.Bool.{true, false}
+use Prim.Native.Nat.{ℕ, _+_, _≤_, _<_}
+use native.Mathlib.Nat.{add-zero}
 use Rattle.std.proofs.shelf.Sums.{folded-push}
 use native.Mathlib.Omega.{arith}
 use lib.Dec.{eqb}
-use lib.ListN.{length, getD, set, replicate, take, drop}
-use Rattle.std.specs.Iters.{folded}
+use lib.ListN.{length, getD, set, replicate}
 use Rattle.std.specs.declared.option.Option.{Option}
-use Rattle.std.specs.declared.option.Option.the-variants.{Some, None}
-use Rattle.std.proofs.shelf.Lists.{set-set, set-comm, set-past, getD-set-same, getD-set-other, length-set, getD-replicate, length-replicate, append-assoc, length-push, getD-at, set-getD, drop-more}
-use Rattle.std.proofs.shelf.Tests.{cases-eq, cases-lt, eq-eqb, ne-eqb, or-parts, or-cases, or-left, or-right, or-from, eqb-true, eqb-false, cases-bool}
+use Rattle.std.specs.declared.option.Option.the-variants.{None}
+use Rattle.std.proofs.shelf.Lists.{set-set, set-comm, getD-set-same, getD-set-other, length-set, getD-replicate, length-replicate, append-assoc, length-push, getD-at}
+use Rattle.std.proofs.shelf.Tests.{cases-eq, eq-eqb, ne-eqb, or-parts, or-cases, or-left, or-right, or-from, eqb-true, eqb-false}
 use Rattle.board.specs.Meaning.{Row, vacant}
 use Rattle.journal.specs.Replay.{Note, noted, replayed, indexedFrom, indexed, speaks, noteAt}
 

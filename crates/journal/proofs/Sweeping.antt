@@ -11,7 +11,7 @@ use Rattle.std.specs.declared.option.Option.the-variants.{Some, None}
 use Rattle.std.proofs.shelf.Lists.{length-take, length-drop}
 use Rattle.std.proofs.shelf.Tests.{and-parts, and-cases, ltb-true, ltb-false, eqb-true, eqb-false, cases-lt}
 use Rattle.std.proofs.shelf.Counted.{getD-map-counting}
-use Rattle.board.specs.Meaning.{Row, standing}
+use Rattle.board.specs.Meaning.{standing}
 use Rattle.blocks.specs.Blocks.{block, withBlock, Bytes}
 use Rattle.blocks.specs.Marks.{isRow}
 use Rattle.blocks.proofs.Writes.{block-other, length-withBlock}

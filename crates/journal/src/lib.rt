@@ -1,5 +1,5 @@
 // The journal board: entries written one behind the other, the latest for a number deciding.
-pub mod entries;
+mod entries;
 pub mod journal;
 
 pub use journal::Journal;

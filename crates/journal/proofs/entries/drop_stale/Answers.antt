@@ -1,8 +1,8 @@
-use mathlib.Core.Path.{_≡_, _∙_, ap, sym}
+use mathlib.Core.Path.{_∙_, ap, sym}
 use native.Mathlib.Omega.{arith}
 use Prim.Native.Nat.{_*_, _≤_}
 use lib.ListN.{length}
-use Rattle.std.specs.Of.Vec.{vec-len, vec-items}
+use Rattle.std.specs.Of.Vec.{vec-items}
 use Rattle.journal.proofs.Sweeping.{sweeping-none, sweeping-all, turn-latest, turn-stale}
 use Rattle.journal.proofs.entries.drop_stale.Needs as need
 use Rattle.journal.proofs.entries.drop_stale.Needs.{in-Some, in-rest}
