@@ -6,8 +6,10 @@ use crate::fault::BoardFault;
 
 // A board by what it means. Numbers come in at 64 bits, so that any number gets its answer.
 pub trait Board {
+    // What a board of this kind means.
     ghost meaning: { Self → BoardMeaning Row };
 
+    // What holds of every board: its figures keep their limits, no more rows stand than may, and each has its 128 bytes.
     law lawful: { (b : Self) → Lawful (meaning b) };
 
     // How many numbers the board has.

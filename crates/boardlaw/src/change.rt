@@ -1,4 +1,4 @@
-// A change to one row of a board.
+// A change to the row of one number: it is set, or removed.
 #[derive(Clone, Copy)]
 pub enum Change {
     Store(u64, [u8; 128]),

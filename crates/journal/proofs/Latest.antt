@@ -16,9 +16,9 @@ use Rattle.blocks.specs.declared.mark.Mark.{Mark}
 use Rattle.blocks.specs.Marks.{isRow, markByte, marked, held}
 use Rattle.blocks.proofs.Marking.{held-marked}
 use Rattle.blocks.proofs.ByteLists.{bytes-block}
-use Rattle.journal.specs.Replay.{Note, replayed, indexed, Leads, noteAt}
+use Rattle.journal.specs.Replay.{Note, replayed, indexed, Leads}
 use Rattle.journal.specs.Entries.{noteOf, notes, entryRows}
-use Rattle.journal.proofs.Replaying.{latest-decides, replayed-push, indexed-push, indexed-below, length-indexed, rows-long}
+use Rattle.journal.proofs.Replaying.{noteAt, latest-decides, replayed-push, indexed-push, indexed-below, length-indexed, rows-long}
 use Rattle.journal.proofs.Noting.{length-notes, notes-push, note-whole}
 
 -- the index is read at n, and gives `place`

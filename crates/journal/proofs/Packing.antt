@@ -13,8 +13,8 @@ use Rattle.std.proofs.shelf.Lists.{set-past, set-getD, getD-set-same, getD-set-
 use Rattle.std.proofs.shelf.Tests.{cases-eq, cases-lt, ne-eqb, lt-ltb, le-ltb, cond-true, cond-false, or-from, or-parts}
 use Rattle.board.specs.Meaning.{Row, vacant, one, standing}
 use Rattle.board.proofs.Standing.{standing-set, standing-vacant}
-use Rattle.journal.specs.Replay.{Note, noted, replayed, indexedFrom, indexed, Leads, speaks}
-use Rattle.journal.proofs.Replaying.{shadowed, untouched, index-tells, replayed-push, indexed-append, indexed-push, indexed-below, indexed-none, length-indexed, rows-long}
+use Rattle.journal.specs.Replay.{Note, noted, replayed, indexedFrom, indexed, Leads}
+use Rattle.journal.proofs.Replaying.{speaks, shadowed, untouched, index-tells, replayed-push, indexed-append, indexed-push, indexed-below, indexed-none, length-indexed, rows-long}
 
 -- the first p of the notes es are passed, `kept` is what is left of them, and the index leads to the notes ahead and to those kept
 pub record Packing (capacity : ℕ) (es kept : List Note) (index : List ℕ) (p : ℕ) : Type 0 where

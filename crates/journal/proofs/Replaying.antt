@@ -2,8 +2,8 @@
 use mathlib.Core.Path.{_≡_, refl, sym, ap, _∙_}
 use mathlib.Core.Logic.{_⊎_, inl, inr, ⊎-elim}
 use mathlib.Core.List.{List, [], _∷_, _++_}
-use mathlib.Core.Bool.{true, false}
-use Prim.Native.Nat.{ℕ, _+_, _≤_, _<_}
+use mathlib.Core.Bool.{Bool, true, false, cond, _||_}
+use Prim.Native.Nat.{ℕ, _+_, _-_, _≤_, _<_}
 use native.Mathlib.Nat.{add-zero}
 use Rattle.std.proofs.shelf.Sums.{folded-push}
 use native.Mathlib.Omega.{arith}
@@ -14,7 +14,16 @@ use Rattle.std.specs.declared.option.Option.the-variants.{None}
 use Rattle.std.proofs.shelf.Lists.{set-set, set-comm, getD-set-same, getD-set-other, length-set, getD-replicate, length-replicate, append-assoc, length-push, getD-at}
 use Rattle.std.proofs.shelf.Tests.{cases-eq, eq-eqb, ne-eqb, or-parts, or-cases, or-left, or-right, or-from, eqb-true, eqb-false}
 use Rattle.board.specs.Meaning.{Row, vacant}
-use Rattle.journal.specs.Replay.{Note, noted, replayed, indexedFrom, indexed, speaks, noteAt}
+use Rattle.journal.specs.Replay.{Note, noted, replayed, indexedFrom, indexed}
+
+-- some note speaks of n
+abbrev pub speaks : ℕ → List Note → Bool
+speaks n [] = false
+speaks n (e ∷ es) = eqb (e .0) n || speaks n es
+
+-- what the note at one less than `place` says, and none at 0
+abbrev pub noteAt : List Note → ℕ → Option Row
+noteAt es place = cond (eqb place 0) None ((getD es (place - 1) (0, None)) .1)
 
 -- a write at n does not show through a later note of n
 pub shadowed : (n : ℕ) (x : Option Row) (es : List Note) (rows : List (Option Row)) → speaks n es ≡ true → replayed (set rows n x) es ≡ replayed rows es

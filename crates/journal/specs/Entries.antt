@@ -36,7 +36,7 @@ entryRows capacity used bytes = replayed (vacant capacity) (notes used bytes)
 abbrev pub latestNumber : ℕ → List ℕ → List ℕ → ℕ → Option ℕ
 latestNumber capacity index e place = cond (ltb (entryNumber e) capacity && eqb (getD index (entryNumber e) 0) (place + 1)) (Some (entryNumber e)) None
 
--- a journal board takes 1 to 4,096 numbers, a limit of 1 to as many rows, and a memory with an entry more than the limit or up to 65,535
+-- a journal board takes 1 to 4,096 numbers, a limit of 1 to as many rows, and a memory of more entries than the limit and at most 65,535
 abbrev pub journalTakes : ℕ → ℕ → ℕ → Bool
 journalTakes c l len = leb 1 c && leb c 4096 && leb 1 l && leb l c && ltb l (len / 131) && leb (len / 131) 65535
 

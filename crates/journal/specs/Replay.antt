@@ -1,13 +1,10 @@
 -- What a journal means: its notes in order, the latest for a number deciding.
 use mathlib.Core.Path.{_≡_}
 use mathlib.Core.List.{List, [], _∷_}
-use mathlib.Core.Bool.{Bool, false, cond, _||_}
-use Prim.Native.Nat.{ℕ, _+_, _-_, _<_}
-use lib.Dec.{eqb}
+use Prim.Native.Nat.{ℕ, _+_, _<_}
 use lib.ListN.{getD, set, replicate}
 use Rattle.std.specs.Iters.{folded}
 use Rattle.std.specs.declared.option.Option.{Option}
-use Rattle.std.specs.declared.option.Option.the-variants.{None}
 use Rattle.board.specs.Meaning.{Row}
 
 -- what one entry says: a number, and the row that stands there from then on, or none
@@ -33,12 +30,3 @@ indexed capacity es = indexedFrom 0 (replicate capacity 0) es
 -- the index leads to the latest note of each number
 abbrev pub Leads : ℕ → List ℕ → List Note → Type 0
 Leads capacity index es = (n : ℕ) → n < capacity → getD index n 0 ≡ getD (indexed capacity es) n 0
-
--- some note speaks of n
-abbrev pub speaks : ℕ → List Note → Bool
-speaks n [] = false
-speaks n (e ∷ es) = eqb (e .0) n || speaks n es
-
--- what the note at one less than `place` says, and none at 0
-abbrev pub noteAt : List Note → ℕ → Option Row
-noteAt es place = cond (eqb place 0) None ((getD es (place - 1) (0, None)) .1)

@@ -96,6 +96,7 @@ impl Journal {
     }
 }
 
+// The journal as a board.
 pub impl Board for Journal as JournalBoard {
     ghost meaning = { journalMeaning };
 

@@ -59,6 +59,7 @@ impl Table {
     }
 }
 
+// The table as a board: its limit is its capacity.
 pub impl Board for Table as TableBoard {
     ghost meaning = { tableMeaning };
 
