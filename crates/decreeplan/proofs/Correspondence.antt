@@ -7,7 +7,7 @@ use native.Mathlib.Omega.{arith}
 use lib.Dec.{ltb}
 use lib.ListN.{length, getD}
 use Rattle.std.specs.Iters.{counting}
-use Rattle.std.specs.Options.{mapped, valueOr}
+use Rattle.std.specs.Options.{mapped, isSome, valueOr}
 use Rattle.std.specs.declared.option.Option.{Option}
 use Rattle.std.specs.declared.option.Option.the-variants.{Some, None}
 use Rattle.std.proofs.shelf.Bits.{div-add-mod', mod-below}
@@ -152,21 +152,21 @@ base-below TwoRate30 = omega arith
 base-below Extended = omega arith
 base-below Extended30 = omega arith
 
-pub below-some : (b : Base) (code : ℕ) → baseOf code ≡ Some b → true ≡ ltb code 4374
+below-some : (b : Base) (code : ℕ) → baseOf code ≡ Some b → true ≡ ltb code 4374
 below-some b code e =
     let n = base-number b (code / 729) e in
     let h = base-below b in
     let l : code < 4374 = omega arith in
     grind (arith, tells)
 
-pub below-none : (code : ℕ) → baseOf code ≡ None → false ≡ ltb code 4374
+below-none : (code : ℕ) → baseOf code ≡ None → false ≡ ltb code 4374
 below-none code e =
     let n : 6 ≤ code / 729 = grind (arith, tells) in
     let l : 4374 ≤ code = omega arith in
     grind (arith, tells)
 
 -- the plan of a code is the only one that has it
-pub coded-some : (b : Base) (code : ℕ) → baseOf code ≡ Some b → Coded code (Some (b, placesOf code))
+coded-some : (b : Base) (code : ℕ) → baseOf code ≡ Some b → Coded code (Some (b, placesOf code))
 coded-some b code e = (
   six-places code,
   code-of-plan b code e,
@@ -176,8 +176,17 @@ coded-some b code e = (
       (ap (λ (o : Option (Base × List Place)). valueOr {T = Base × List Place} o (c, places) .0) p, ap (λ (o : Option (Base × List Place)). valueOr {T = Base × List Place} o (c, places) .1) p),
 )
 
-pub coded-none : (code : ℕ) → baseOf code ≡ None → Coded code None
+coded-none : (code : ℕ) → baseOf code ≡ None → Coded code None
 coded-none code e = λ c places l q.
     let p : _≡_ {A = Option (Base × List Place)} (Some (c, places)) None = sym (plan-of-code c places l) ∙ ap planAt q ∙ ap (mapped (λ x. (x, placesOf code))) e in
     let z : _≡_ {A = ℕ} 0 1 = cc in
     omega arith
+
+-- of the plan of any code
+pub coded-all : (code : ℕ) (o : Option Base) → baseOf code ≡ o → Coded code (mapped (λ b. (b, placesOf code)) o)
+coded-all code None e = coded-none code e
+coded-all code (Some b) e = coded-some b code e
+
+pub below-all : (code : ℕ) (o : Option Base) → baseOf code ≡ o → isSome (mapped {U = Base × List Place} (λ b. (b, placesOf code)) o) ≡ ltb code 4374
+below-all code None e = below-none code e
+below-all code (Some b) e = below-some b code e
