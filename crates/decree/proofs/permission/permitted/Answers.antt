@@ -1,5 +1,5 @@
 use mathlib.Core.Path.{_≡_, sym, ap, subst, _∙_}
-use mathlib.Core.Bool.{Bool, true, false}
+use mathlib.Core.Bool.{Bool, true}
 use Prim.Native.Nat.{ℕ, _/_, _%_, _^_, _<_}
 use native.Mathlib.Omega.{arith}
 use lib.ListN.{getD}
@@ -12,7 +12,7 @@ use Rattle.facts.specs.Usage.{usageOf}
 use Rattle.decreeplan.specs.declared.plan.Base.{Base}
 use Rattle.decreeplan.specs.declared.plan.Place.{Place}
 use Rattle.decreeplan.specs.declared.plan.Place.the-variants.{Main}
-use Rattle.decreeplan.specs.Codes.{placesOf, placeIn, digitPlace}
+use Rattle.decreeplan.specs.Codes.{placesOf, digitPlace}
 use Rattle.decree.specs.Permission.{mayStand}
 use Rattle.decreeplan.proofs.Digits.{rest-more, place-at}
 use Rattle.decree.proofs.Permitted.{standsAt, permitted-all, permitted-not}
