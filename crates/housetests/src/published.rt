@@ -1,0 +1,107 @@
+// Figures that public papers print, as house sheets.
+
+// A sheet's bytes, a period at price figures of 10,000 with so many kWh by day, and a code with its price in cents, and the code of the cheapest plan.
+pub struct Published {
+    pub bytes: &'static [u8],
+    pub months: u64,
+    pub day: u64,
+    pub code: u64,
+    pub cents: u64,
+    pub cheapest: u64,
+}
+
+pub const PUBLISHED: [Published; 11] = [
+    // "Toepassingsvoorwaarden van de elektriciteitstarieven", tariff proposal 2019, version of 1 January 2019: 240 kW and 8,900 kWh in a month are 795.43 euro; at 3,600 kWh the ceiling of 0.17154 euro a kWh applies, 617.54 in place of 782.29
+    Published {
+        bytes: b"\x01\x00\x12\x00\x8d\x9b\x44\x00\x00\x00\x00\x00\x00\x00\xf8\x00\x00\x00\x00\x00\x00\x01\x00\x12\x00\x00\x00\x00\x00\x00\x00\x00\x00\x00\x43\x02\x00\x00\x00\x00\x00\x00\x7f\x00\x00",
+        months: 1,
+        day: 8900,
+        code: 0,
+        cents: 79543,
+        cheapest: 0,
+    },
+    Published {
+        bytes: b"\x01\x00\x12\x00\x8d\x9b\x44\x00\x00\x00\x00\x00\x00\x00\xf8\x00\x00\x00\x00\x00\x00\x01\x00\x12\x00\x00\x00\x00\x00\x00\x00\x00\x00\x00\x43\x02\x00\x00\x00\x00\x00\x00\x7f\x00\x00",
+        months: 1,
+        day: 3600,
+        code: 0,
+        cents: 78229,
+        cheapest: 1,
+    },
+    Published {
+        bytes: b"\x01\x00\x12\x00\x8d\x9b\x44\x00\x00\x00\x00\x00\x00\x00\xf8\x00\x00\x00\x00\x00\x00\x01\x00\x12\x00\x00\x00\x00\x00\x00\x00\x00\x00\x00\x43\x02\x00\x00\x00\x00\x00\x00\x7f\x00\x00",
+        months: 1,
+        day: 3600,
+        code: 1,
+        cents: 61754,
+        cheapest: 1,
+    },
+    // the same paper: 35 kW cost 166.39 euro a month
+    Published {
+        bytes: b"\x01\x00\x12\x00\x1e\x77\xa3\x00\x00\x00\x00\x00\x00\x00\x00\x00\x00\x00\x00\x00\x00\x7f\x00\x00",
+        months: 1,
+        day: 0,
+        code: 0,
+        cents: 16639,
+        cheapest: 0,
+    },
+    // "Ministerieel besluit houdende vaststelling van de maximumprijzen voor de levering van elektriciteit", 12 December 2001: limited power is cheaper than normal up to 2,500 kWh a year
+    Published {
+        bytes: b"\x01\x00\x12\x00\x00\x9c\x36\x00\x00\x00\x00\x00\x00\x21\x81\x06\xa2\x21\x81\x06\xa2\x01\x00\x12\x00\x00\x2f\x12\x00\x00\x00\x00\x00\x00\x25\xdf\x06\xa2\x25\xdf\x06\xa2\x7f\x00\x00",
+        months: 12,
+        day: 2499,
+        code: 0,
+        cents: 29676,
+        cheapest: 1,
+    },
+    Published {
+        bytes: b"\x01\x00\x12\x00\x00\x9c\x36\x00\x00\x00\x00\x00\x00\x21\x81\x06\xa2\x21\x81\x06\xa2\x01\x00\x12\x00\x00\x2f\x12\x00\x00\x00\x00\x00\x00\x25\xdf\x06\xa2\x25\xdf\x06\xa2\x7f\x00\x00",
+        months: 12,
+        day: 2499,
+        code: 1,
+        cents: 29676,
+        cheapest: 1,
+    },
+    Published {
+        bytes: b"\x01\x00\x12\x00\x00\x9c\x36\x00\x00\x00\x00\x00\x00\x21\x81\x06\xa2\x21\x81\x06\xa2\x01\x00\x12\x00\x00\x2f\x12\x00\x00\x00\x00\x00\x00\x25\xdf\x06\xa2\x25\xdf\x06\xa2\x7f\x00\x00",
+        months: 12,
+        day: 2500,
+        code: 0,
+        cents: 29686,
+        cheapest: 0,
+    },
+    // the same decree: small supplies are cheaper than normal below 1,500 kWh a year
+    Published {
+        bytes: b"\x01\x00\x12\x00\x00\x9c\x36\x00\x00\x00\x00\x00\x00\x21\x81\x06\xa2\x21\x81\x06\xa2\x01\x00\x12\x00\x00\x21\x02\x00\x00\x00\x00\x00\x00\x29\xb7\x06\xa2\x29\xb7\x06\xa2\x7f\x00\x00",
+        months: 12,
+        day: 1500,
+        code: 1,
+        cents: 19410,
+        cheapest: 1,
+    },
+    Published {
+        bytes: b"\x01\x00\x12\x00\x00\x9c\x36\x00\x00\x00\x00\x00\x00\x21\x81\x06\xa2\x21\x81\x06\xa2\x01\x00\x12\x00\x00\x21\x02\x00\x00\x00\x00\x00\x00\x29\xb7\x06\xa2\x29\xb7\x06\xa2\x7f\x00\x00",
+        months: 12,
+        day: 1501,
+        code: 0,
+        cents: 19422,
+        cheapest: 0,
+    },
+    // "Elektriciteitstarificatie in Belgie, doorlichting van de tariefformules en parameters", report 88/216, February 1988: the social tariff is cheaper than the normal one up to 750 kWh a year (all in twentieths of a franc)
+    Published {
+        bytes: b"\x01\x00\x12\x00\x00\xee\x48\x00\x00\x00\x00\x00\x00\x26\xf2\x0d\x61\x26\xf2\x0d\x61\x01\x00\x12\x00\x00\x00\x00\x00\x00\x00\x00\x00\x00\x46\xb4\x0d\x61\x46\xb4\x0d\x61\x7f\x00\x00",
+        months: 12,
+        day: 750,
+        code: 1,
+        cents: 16144,
+        cheapest: 1,
+    },
+    Published {
+        bytes: b"\x01\x00\x12\x00\x00\xee\x48\x00\x00\x00\x00\x00\x00\x26\xf2\x0d\x61\x26\xf2\x0d\x61\x01\x00\x12\x00\x00\x00\x00\x00\x00\x00\x00\x00\x00\x46\xb4\x0d\x61\x46\xb4\x0d\x61\x7f\x00\x00",
+        months: 12,
+        day: 751,
+        code: 0,
+        cents: 16160,
+        cheapest: 0,
+    },
+];
