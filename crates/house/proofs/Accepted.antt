@@ -1,4 +1,4 @@
--- Bytes that are accepted are the writing of the lines read.
+-- Bytes are accepted exactly where they are the writing of a sheet's lines, which are then the lines read.
 use mathlib.Core.Path.{_≡_, refl, sym, _∙_, ap, subst}
 use mathlib.Core.Bool.{true}
 use mathlib.Core.List.{List, [], _∷_, _++_}
@@ -16,10 +16,11 @@ use Rattle.house.specs.declared.line.SheetFault.the-variants.{NinthLine}
 use Rattle.house.specs.Fields.{sizeOf, contentOf}
 use Rattle.house.specs.Lines.{lineFits, LineLimits, SheetLines}
 use Rattle.house.specs.Writing.{lineBytes, endBytes, written}
-use Rattle.house.specs.Reading.{lineIn, entryOf, readOn, readOf}
+use Rattle.house.specs.Reading.{lineIn, entryOf, readOn, readOf, Written}
 use Rattle.house.proofs.Bytes.{Bytes, pair16, quad32, each, front}
 use Rattle.house.proofs.Entries.{plan-facts, end-facts}
 use Rattle.house.proofs.Limits.{limits-push}
+use Rattle.house.proofs.ReadBack.{reads-back}
 use Rattle.house.proofs.Turns.{went, opened}
 
 -- the content of a line's field, byte by byte
@@ -89,8 +90,16 @@ accepted-on zero ls before bs b few fit e = never ls (NinthLine (21 * length bef
 accepted-on (suc fields) ls before bs b few fit e =
     accepted-by fields ls (accepted-on fields ls) before bs (entryOf (length before) (21 * length before) bs) b few fit refl (sym (opened fields before bs) ∙ e)
 
-pub accepted : (bs : List ℕ) (ls : List Line) → Bytes bs → readOf bs ≡ Ok ls → SheetLines ls × (bs ≡ written ls)
+accepted : (bs : List ℕ) (ls : List Line) → Bytes bs → readOf bs ≡ Ok ls → SheetLines ls × (bs ≡ written ls)
 unfolding readOf Behind
 accepted bs ls b e =
     let k = accepted-on 9 ls [] bs b (omega arith) (λ n h. absurd (omega arith)) e in
     (k .3, k .2 ∙ ap written (sym (k .1)))
+
+-- bytes are read as lines exactly where they are the writing of a sheet's lines, and then as these
+written-by : (bs : List ℕ) (r : Result (List Line) SheetFault) → Bytes bs → readOf bs ≡ r → Written bs r
+written-by bs (Ok ls) b e = accepted bs ls b e
+written-by bs (Err f) b e = λ ls s w. never ls f (sym e ∙ ap readOf w ∙ reads-back ls s)
+
+pub read-written : (bs : List ℕ) → Bytes bs → Written bs (readOf bs)
+read-written bs b = written-by bs (readOf bs) b refl

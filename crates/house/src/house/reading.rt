@@ -5,7 +5,7 @@ ghost use Prim.Native.Nat.{_+_, _^_, _<_, _≤_};
 ghost use lib.ListN.{length};
 ghost use Rattle.std.specs.declared.result.Result.the-variants.{Ok, Err};
 ghost use Rattle.house.specs.Lines.{rateFits, lineFits};
-ghost use Rattle.house.specs.Reading.{at16, at32, rateIn, lineIn, planOf, entryOf, EntryRoom, readOf, readingAnswer, readingAfter, Faithful};
+ghost use Rattle.house.specs.Reading.{at16, at32, rateIn, lineIn, planOf, entryOf, EntryRoom, readOf, readingAnswer, readingAfter, Written, Faithful};
 ghost use Rattle.house.specs.Houses.{linesOf, linesMade};
 use super::House;
 use crate::field::first_field;
@@ -129,7 +129,8 @@ fn entry(left: &[u8], at: u64, count: usize) -> Result<Entry, SheetFault>
 impl House {
     // The sheet that the bytes are.
     fn from_bytes(bytes: &[u8]) -> Result<House, SheetFault>
-        ensures { λ r. ⌜ linesMade r ≡ readOf (now (bytes .entry)) ⌝ }
+        ensures value { λ r. ⌜ linesMade r ≡ readOf (now (bytes .entry)) ⌝ }
+        ensures writing { λ r. ⌜ Written (now (bytes .entry)) (linesMade r) ⌝ }
     {
         let mut house = House::new();
         loop {

@@ -15,7 +15,7 @@ returns-in-Some-eq1-rest-rest c =
     let content = c .in-Some-eq1-rest-rest .content .now in
     let tag : getD bs 0 0 ≡ 1 = omega (arith, k .1) in
     let long : 3 + sizeOf bs ≤ length bs = grind (arith, tells) in
-    let size : sizeOf bs ≡ 18 = sym (content-size bs long) ∙ ap length (sym (k .2)) ∙ c .if-content-eq-LINE-LENGTH .taken in
+    let size : sizeOf bs ≡ 18 = omega (arith, content-size bs long, ap length (k .2)) in
     let few : c .args .count < 8 = grind (arith, tells) in
     record {
       value = c .plan-in .ensures ∙ ap (λ x. planOf (c .args .at) (lineIn x)) (k .2) ∙ sym (entry-plan (c .args .count) (c .args .at) bs few (omega arith) tag size);
