@@ -2,7 +2,7 @@
 use mathlib.Core.Path.{_≡_, refl, sym, _∙_, ap, subst}
 use mathlib.Core.Bool.{true}
 use mathlib.Core.List.{List, [], _∷_, _++_}
-use Prim.Native.Nat.{ℕ, zero, suc, _+_, _-_, _*_, _<_, _≤_}
+use Prim.Native.Nat.{ℕ, zero, suc, _+_, _-_, _*_, _≤_}
 use native.Mathlib.Omega.{arith}
 use lib.ListN.{length, getD, take, drop}
 use Rattle.std.proofs.shelf.Lists.{append-nil, append-assoc, length-push, getD-drop, drop-all}
@@ -35,7 +35,6 @@ line-front : (bs : List ℕ) → Bytes bs → 21 ≤ length bs → getD bs 0 0 �
 line-front bs b h t s =
     let hi : getD bs 1 0 ≡ 0 = omega (arith, b 1, b 2) in
     let lo : getD bs 2 0 ≡ 18 = omega (arith, b 1, b 2) in
-    let more = drop 21 bs in
     let content =
     quad32 (getD bs 3 0) (getD bs 4 0) (getD bs 5 0) (getD bs 6 0) _ _ (b 3) (b 4) (b 5) (b 6)
     (pair16 (getD bs 7 0) (getD bs 8 0) _ _ (b 7) (b 8)

@@ -1,5 +1,5 @@
 -- Numbers in bytes, and back.
-use mathlib.Core.Path.{_≡_, refl, sym, _∙_, ap}
+use mathlib.Core.Path.{_≡_, sym, _∙_, ap}
 use mathlib.Core.List.{List, [], _∷_, _++_}
 use Prim.Native.Nat.{ℕ, zero, suc, _+_, _*_, _/_, _%_, _<_, _≤_}
 use native.Mathlib.Omega.{arith}
@@ -41,7 +41,6 @@ pair16 h l xs ys a b e =
 pub quad32 : (a b c d : ℕ) (xs ys : List ℕ) → a < 256 → b < 256 → c < 256 → d < 256 → xs ≡ ys
     → be32 (a * 16777216 + b * 65536 + c * 256 + d) ++ xs ≡ a ∷ b ∷ c ∷ d ∷ ys
 quad32 a b c d xs ys ha hb hc hd e =
-    let n : ℕ = a * 16777216 + b * 65536 + c * 256 + d in
     let p : (a * 16777216 + b * 65536 + c * 256 + d) / 16777216 % 256 ≡ a = omega arith in
     let q : (a * 16777216 + b * 65536 + c * 256 + d) / 65536 % 256 ≡ b = omega arith in
     let r : (a * 16777216 + b * 65536 + c * 256 + d) / 256 % 256 ≡ c = omega arith in

@@ -1,11 +1,11 @@
 -- What the field at the front says, by its kind.
-use mathlib.Core.Path.{_≡_, refl, sym, _∙_, ap}
+use mathlib.Core.Path.{_≡_, refl}
 use mathlib.Core.Bool.{Bool, true, false, cond, _&&_, _||_}
 use mathlib.Core.List.{List}
 use Prim.Native.Nat.{ℕ, _+_, _<_, _≤_}
 use native.Mathlib.Omega.{arith}
 use lib.Dec.{leb, eqb, ltb}
-use lib.ListN.{length, getD, take, drop}
+use lib.ListN.{length, getD, drop}
 use Rattle.std.proofs.shelf.Ways.{tells}
 use Rattle.std.proofs.shelf.Lists.{length-take-le, length-drop}
 use Rattle.std.specs.declared.result.Result.{Result}
@@ -15,10 +15,10 @@ use Rattle.house.specs.declared.line.Entry.{Entry}
 use Rattle.house.specs.declared.line.Entry.the-variants.{Plan, End}
 use Rattle.house.specs.declared.line.SheetFault.{SheetFault}
 use Rattle.house.specs.declared.line.SheetFault.the-variants.{CutShort, UnknownField, MissingEnd, BytesBehind, ValueTooHigh, NoLine, NinthLine}
-use Rattle.house.specs.Fields.{sizeOf, cutShort, contentOf}
+use Rattle.house.specs.Fields.{sizeOf, contentOf}
 use Rattle.house.specs.Lines.{lineFits}
 use Rattle.house.specs.Writing.{endBytes}
-use Rattle.house.specs.Reading.{lineIn, planOf, isField, entryOf, EntryRoom}
+use Rattle.house.specs.Reading.{lineIn, planOf, entryOf, EntryRoom}
 
 -- the same by the bytes' count, the field's tag and length and the plan in it alone
 abbrev said : ℕ → ℕ → ℕ → ℕ → ℕ → Result Entry SheetFault → Result Entry SheetFault

@@ -4,15 +4,13 @@ use mathlib.Core.Bool.{true}
 use mathlib.Core.List.{List, [], _∷_, _++_}
 use Prim.Native.Nat.{ℕ, suc, _+_, _-_, _*_, _<_, _≤_}
 use native.Mathlib.Omega.{arith}
-use lib.ListN.{length, getD, drop}
+use lib.ListN.{length}
 use Rattle.std.proofs.shelf.Ways.{tells}
 use Rattle.std.proofs.shelf.Lists.{append-nil, append-assoc, length-push, length-append}
-use Rattle.std.specs.declared.result.Result.{Result}
-use Rattle.std.specs.declared.result.Result.the-variants.{Ok, Err}
+use Rattle.std.specs.declared.result.Result.the-variants.{Ok}
 use Rattle.house.specs.declared.line.Line.{Line}
-use Rattle.house.specs.declared.line.Entry.the-variants.{Plan, End}
-use Rattle.house.specs.Fields.{sizeOf, contentOf}
-use Rattle.house.specs.Lines.{lineFits, lineAt, LineLimits, SheetLines}
+use Rattle.house.specs.declared.line.Entry.the-variants.{Plan}
+use Rattle.house.specs.Lines.{lineFits, LineLimits, SheetLines}
 use Rattle.house.specs.Writing.{contentBytes, lineBytes, endBytes, written}
 use Rattle.house.specs.Reading.{lineIn, planOf, entryOf, readOn, readOf}
 use Rattle.house.proofs.Bytes.{join16, join32}
@@ -46,7 +44,6 @@ reads-on [] done few some fit =
     ∙ ap (went (8 - length done) done endBytes) (entry-end (length done) (21 * length done) (omega arith)) ∙ ap Ok (sym (append-nil done))
 reads-on (l ∷ ls) done few some fit =
     let s : 9 - length done ≡ suc (8 - length done) = omega arith in
-    let bs = lineBytes l ++ written ls in
     let p : length (done ++ l ∷ []) ≡ length done + 1 = length-push done l in
     let t : 8 - length done ≡ 9 - length (done ++ l ∷ []) = omega arith in
     ap (λ k. readOn k done (written (l ∷ ls))) s ∙ opened (8 - length done) done (written (l ∷ ls))

@@ -1,7 +1,7 @@
 -- Reading one field after the other.
 use mathlib.Core.Path.{_≡_, refl, sym, _∙_, ap}
 use mathlib.Core.List.{List, [], _∷_, _++_}
-use Prim.Native.Nat.{ℕ, suc, _+_, _-_, _*_, _<_, _≤_}
+use Prim.Native.Nat.{ℕ, suc, _+_, _-_, _*_}
 use native.Mathlib.Omega.{arith}
 use lib.ListN.{length, take, drop}
 use Rattle.std.proofs.shelf.Lists.{take-rest, length-take-le}
@@ -34,7 +34,6 @@ pub turned : (bytes : List ℕ) (h : House) (r : Result Entry SheetFault)
     → r ≡ entryOf (h .count) (21 * h .count) (take (length bytes - 21 * h .count) (drop (21 * h .count) bytes))
     → readOn (9 - h .count) (linesOf h) (drop (21 * h .count) bytes) ≡ went (8 - h .count) (linesOf h) (drop (21 * h .count) bytes) r
 turned bytes h r v =
-    let n : ℕ = h .count in
     let s : 9 - h .count ≡ suc (8 - h .count) = omega arith in
     let l : length (linesOf h) ≡ h .count = length-take-le (h .count) (h .lines) (omega arith) in
     let w : entryOf (length (linesOf h)) (21 * length (linesOf h)) (drop (21 * h .count) bytes) ≡ r =

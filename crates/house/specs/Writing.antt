@@ -1,5 +1,5 @@
 -- How the lines of a sheet stand as bytes.
-use mathlib.Core.List.{List, [], _∷_, _++_}
+use mathlib.Core.List.{List, [], _++_}
 use Prim.Native.Nat.{ℕ}
 use Rattle.std.specs.Joined.{joined}
 use Rattle.pricing.specs.declared.rate.UnitRate.{UnitRate}

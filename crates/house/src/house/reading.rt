@@ -1,9 +1,7 @@
 // Reading a house sheet from bytes.
 ghost use mathlib.Core.Path.{_≡_};
-ghost use mathlib.Core.Bool.{cond};
 ghost use Prim.Native.Nat.{_+_, _^_, _<_, _≤_};
 ghost use lib.ListN.{length};
-ghost use Rattle.std.specs.declared.result.Result.the-variants.{Ok, Err};
 ghost use Rattle.house.specs.Lines.{rateFits, lineFits};
 ghost use Rattle.house.specs.Reading.{at16, at32, rateIn, lineIn, planOf, entryOf, EntryRoom, readOf, readingAnswer, readingAfter, Written, Faithful};
 ghost use Rattle.house.specs.Houses.{linesOf, linesMade};

@@ -1,6 +1,6 @@
 use mathlib.Core.Path.{_≡_, sym, _∙_, ap, subst}
 use mathlib.Core.List.{[], _∷_, _++_}
-use Prim.Native.Nat.{ℕ, _+_, _-_, _*_, _≤_}
+use Prim.Native.Nat.{_+_, _-_, _*_}
 use native.Mathlib.Omega.{arith}
 use lib.ListN.{length, take, drop}
 use Rattle.std.proofs.shelf.Lists.{take-rest, length-drop, drop-drop}
@@ -35,7 +35,6 @@ loop-line-again c =
     let b = c .args .bytes .now in
     let h = c .loop-line .house in
     let l = c .in-Plan .line in
-    let at : ℕ = 21 * h .count in
     let left = take (length b - 21 * h .count) (drop (21 * h .count) b) in
     let v = c .in-Continue-line .ensures tt .value in
     let room : EntryRoom (h .count) left (Ok (Plan l)) = subst (λ e. EntryRoom (h .count) left (Ok e)) (c .in-Plan .is) (c .in-Continue-line .ensures tt .room) in

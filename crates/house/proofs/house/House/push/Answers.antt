@@ -1,7 +1,6 @@
-use mathlib.Core.Path.{_≡_, refl, sym, subst}
-use Prim.Native.Nat.{_<_}
+use mathlib.Core.Path.{refl, sym, subst}
 use native.Mathlib.Omega.{arith}
-use lib.ListN.{length, length-set}
+use lib.ListN.{length-set}
 use Rattle.std.proofs.shelf.Lists.{take-more-set}
 use Rattle.house.specs.Lines.{LineLimits}
 use Rattle.house.specs.Houses.{linesOf}

@@ -3,7 +3,7 @@ use Prim.Native.Nat.{_+_, _<_, _≤_}
 use native.Mathlib.Omega.{arith}
 use lib.ListN.{length, getD}
 use Rattle.std.proofs.shelf.Ways.{tells}
-use Rattle.house.specs.Fields.{sizeOf, contentOf}
+use Rattle.house.specs.Fields.{sizeOf}
 use Rattle.house.specs.Reading.{lineIn, planOf, EntryRoom}
 use Rattle.house.proofs.Entries.{entry-plan, plan-room, content-size}
 use Rattle.house.proofs.house.reading.entry.Needs as need
