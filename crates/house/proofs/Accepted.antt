@@ -16,7 +16,7 @@ use Rattle.house.specs.declared.line.SheetFault.the-variants.{NinthLine}
 use Rattle.house.specs.Fields.{sizeOf, contentOf}
 use Rattle.house.specs.Lines.{lineFits, LineLimits, SheetLines}
 use Rattle.house.specs.Writing.{lineBytes, endBytes, written}
-use Rattle.house.specs.Reading.{lineIn, entryOf, readOn, readOf, Written}
+use Rattle.house.specs.Reading.{lineIn, entryOf, readOn, readOf, IsWriting}
 use Rattle.house.proofs.Bytes.{Bytes, pair16, quad32, each, front}
 use Rattle.house.proofs.Entries.{plan-facts, end-facts}
 use Rattle.house.proofs.Limits.{limits-push}
@@ -96,9 +96,9 @@ accepted bs ls b e =
     (k .3, k .2 ∙ ap written (sym (k .1)))
 
 -- bytes are read as lines exactly where they are the writing of a sheet's lines, and then as these
-written-by : (bs : List ℕ) (r : Result (List Line) SheetFault) → Bytes bs → readOf bs ≡ r → Written bs r
+written-by : (bs : List ℕ) (r : Result (List Line) SheetFault) → Bytes bs → readOf bs ≡ r → IsWriting bs r
 written-by bs (Ok ls) b e = accepted bs ls b e
 written-by bs (Err f) b e = λ ls s w. never ls f (sym e ∙ ap readOf w ∙ reads-back ls s)
 
-pub read-written : (bs : List ℕ) → Bytes bs → Written bs (readOf bs)
+pub read-written : (bs : List ℕ) → Bytes bs → IsWriting bs (readOf bs)
 read-written bs b = written-by bs (readOf bs) b refl

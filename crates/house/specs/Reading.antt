@@ -84,9 +84,9 @@ readingAfter (Ok ls) before = ls
 readingAfter (Err f) before = before
 
 -- the bytes are the writing of these lines of a sheet; or of no sheet's lines
-abbrev pub Written : List ℕ → Result (List Line) SheetFault → Type 0
-Written bs (Ok ls) = SheetLines ls × (bs ≡ written ls)
-Written bs (Err f) = (ls : List Line) → SheetLines ls → bs ≡ written ls → ⊥
+abbrev pub IsWriting : List ℕ → Result (List Line) SheetFault → Type 0
+IsWriting bs (Ok ls) = SheetLines ls × (bs ≡ written ls)
+IsWriting bs (Err f) = (ls : List Line) → SheetLines ls → bs ≡ written ls → ⊥
 
 -- done exactly where the bytes are the writing of a sheet's lines: those then stand; else the lines stay as they were
 abbrev pub Faithful : List ℕ → List Line → List Line → Result Unit SheetFault → Type 0

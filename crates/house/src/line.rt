@@ -8,6 +8,9 @@ use pricing::UnitRatePartialEq;
 use refusal::Layer;
 use refusal::Refusal;
 
+// The bytes of a line's field, its tag and length among them.
+pub const LINE_BYTES: usize = 21;
+
 // One plan: its yearly charge in mills, the mills a year for each tenth of a kVA beyond those without charge, the least power (in tenths of a kVA) that it is open to, and its unit rates by day and by night.
 #[derive(Clone, Copy, PartialEq, Eq, Debug)]
 pub struct Line {

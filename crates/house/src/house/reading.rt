@@ -3,21 +3,20 @@ ghost use mathlib.Core.Path.{_≡_};
 ghost use Prim.Native.Nat.{_+_, _^_, _<_, _≤_};
 ghost use lib.ListN.{length};
 ghost use Rattle.house.specs.Lines.{rateFits, lineFits};
-ghost use Rattle.house.specs.Reading.{at16, at32, rateIn, lineIn, planOf, entryOf, EntryRoom, readOf, readingAnswer, readingAfter, Written, Faithful};
+ghost use Rattle.house.specs.Reading.{at16, at32, rateIn, lineIn, planOf, entryOf, EntryRoom, readOf, readingAnswer, readingAfter, IsWriting, Faithful};
 ghost use Rattle.house.specs.Houses.{linesOf, linesMade};
 use super::House;
 use crate::field::first_field;
 use crate::line::Entry;
+use crate::line::LINE_BYTES;
 use crate::line::Line;
 use crate::line::SheetFault;
 use pricing::UnitRate;
 
-// The tag of a line's field, and the length of its content.
+// The tag of a line's field.
 const LINE_TAG: u8 = 1;
-
+// The length of a line's content.
 const LINE_LENGTH: usize = 18;
-// The bytes of a whole line, its tag and length among them.
-const LINE_BYTES: usize = 21;
 // The tag of the field that ends a sheet.
 const END_TAG: u8 = 127;
 // The most lines of a sheet.
@@ -128,7 +127,7 @@ impl House {
     // The sheet that the bytes are.
     fn from_bytes(bytes: &[u8]) -> Result<House, SheetFault>
         ensures value { λ r. ⌜ linesMade r ≡ readOf (now (bytes .entry)) ⌝ }
-        ensures writing { λ r. ⌜ Written (now (bytes .entry)) (linesMade r) ⌝ }
+        ensures writing { λ r. ⌜ IsWriting (now (bytes .entry)) (linesMade r) ⌝ }
     {
         let mut house = House::new();
         loop {

@@ -6,6 +6,7 @@ ghost use lib.ListN.{length, take, drop};
 ghost use Rattle.house.specs.Writing.{lineBytes, written};
 ghost use Rattle.house.specs.Houses.{linesOf};
 use super::House;
+use crate::line::LINE_BYTES;
 use crate::line::Line;
 
 // The bytes of the field that ends a sheet.
@@ -67,7 +68,7 @@ impl House {
         let mut at = 0;
         for line in self.lines() {
             put(place, at, &line_bytes(line));
-            at += 21;
+            at += LINE_BYTES;
         }
         put(place, at, &END);
         at + 3

@@ -7,7 +7,7 @@ use Rattle.std.proofs.shelf.Lists.{take-rest, length-drop, drop-drop}
 use Rattle.std.proofs.shelf.Results.{err-from-errBy}
 use Rattle.std.specs.declared.result.Result.the-variants.{Ok, Err}
 use Rattle.house.specs.declared.line.Entry.the-variants.{Plan, End}
-use Rattle.house.specs.Reading.{EntryRoom, readOn, readOf, Written}
+use Rattle.house.specs.Reading.{EntryRoom, readOn, readOf, IsWriting}
 use Rattle.house.specs.Houses.{linesOf, linesMade}
 use Rattle.house.proofs.Accepted.{read-written}
 use Rattle.house.proofs.Turns.{turned}
@@ -28,7 +28,7 @@ returns-in-Break-line c =
     let f = c .in-Break-line .field-0 .0 in
     let e : readOf (c .args .bytes .now) ≡ Err f = c .loop-line .inv .1 ∙ turned (c .args .bytes .now) (c .loop-line .house) (Err f) (c .in-Break-line .ensures tt .value) in
     let v : linesMade (c .from-residual .result) ≡ readOf (c .args .bytes .now) = ap linesMade (p .1) ∙ ap Err (p .2) ∙ sym e in
-    record { value = v; writing = subst (Written (c .args .bytes .now)) (sym v) (read-written (c .args .bytes .now) (λ i. c .typed .bytes i .fits)) }
+    record { value = v; writing = subst (IsWriting (c .args .bytes .now)) (sym v) (read-written (c .args .bytes .now) (λ i. c .typed .bytes i .fits)) }
 
 pub loop-line-again : need.loop-line-again
 loop-line-again c =
@@ -53,4 +53,4 @@ pub returns-in-End : need.returns-in-End
 returns-in-End c =
     let e : Ok (linesOf (c .loop-line .house)) ≡ readOf (c .args .bytes .now) =
     sym (c .loop-line .inv .1 ∙ turned (c .args .bytes .now) (c .loop-line .house) (Ok End) (ap Ok (sym (c .in-End .is)) ∙ c .in-Continue-line .ensures tt .value)) in
-    record { value = e; writing = subst (Written (c .args .bytes .now)) (sym e) (read-written (c .args .bytes .now) (λ i. c .typed .bytes i .fits)) }
+    record { value = e; writing = subst (IsWriting (c .args .bytes .now)) (sym e) (read-written (c .args .bytes .now) (λ i. c .typed .bytes i .fits)) }
