@@ -24,7 +24,7 @@ use Rattle.facts.specs.Limits.{mayHave, kwhFits}
 use Rattle.facts.specs.Usage.{Dwelling, Usage}
 
 -- what was made, by its plain figures, or the fault
-abbrev pub made : {X Y : Type 0} → (X → Y) → Result X FactsFault → Result Y FactsFault
+abbrev pub made : {X Y E : Type 0} → (X → Y) → Result X E → Result Y E
 made figures (Ok x) = Ok (figures x)
 made figures (Err e) = Err e
 

@@ -1,0 +1,2 @@
+pub mod Kwh
+pub mod Following

@@ -1,0 +1,7 @@
+pub mod Faults
+pub mod States
+pub mod Registers
+pub mod Balances
+pub mod Tenancy
+pub mod Waiting
+pub mod Steps

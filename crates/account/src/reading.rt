@@ -1,0 +1,61 @@
+// Readings: kWh join what waits.
+ghost use mathlib.Core.Path.{_≡_};
+ghost use Rattle.std.specs.Slices.{found};
+ghost use Rattle.facts.specs.Forms.{made};
+ghost use Rattle.account.specs.declared.state.State.the-variants.{Ready};
+ghost use Rattle.account.specs.Registers.{IndexLimits, WaitingLimits};
+ghost use Rattle.account.specs.Tenancy.{tenancyOf};
+ghost use Rattle.account.specs.Steps.{waitingAfter, readTo};
+use crate::account::Account;
+use crate::event::EventKind;
+use crate::fault::AccountFault;
+use crate::registers::counted;
+use crate::registers::indices_from;
+use crate::registers::kind_of;
+use crate::registers::register_size;
+
+// The most kWh of a register, in a reading or waiting.
+const MOST_KWH: u32 = 100_000;
+
+impl Account {
+    // What waits in each register after a reading of these indices, where that is within its limit.
+    fn waiting_after(&self, indices: &[u32; 12]) -> Option<[u32; 12]>
+        requires { ⌜ IndexLimits (now self .profile .kinds) (now indices) ⌝ }
+        ensures value { λ r. ⌜ r ≡ waitingAfter (tenancyOf (now (self .entry))) (now (indices .entry)) ⌝ }
+        ensures limits { λ r. ⌜ found r (WaitingLimits Ready (now (self .entry) .profile .kinds)) ⌝ }
+    {
+        let mut waiting = [0u32; 12];
+        for (i, index) in indices.iter().enumerate() {
+            let size = register_size(kind_of(&self.profile.kinds, i));
+            let kwh = self.waiting[i] + counted(size, self.indices[i], *index);
+            if kwh > MOST_KWH {
+                return None;
+            }
+            waiting[i] = kwh;
+        }
+        Some(waiting)
+    }
+}
+
+impl Account {
+    // The account after a reading of these indices.
+    pub fn read(self, indices: &[u64; 12]) -> Result<Account, AccountFault>
+        ensures { λ r. ⌜ made tenancyOf r ≡ readTo (now (indices .entry)) (tenancyOf self) ⌝ }
+    {
+        let state = self.state.after(EventKind::Reading)?;
+        let Some(indices) = indices_from(&self.profile.kinds, indices) else {
+            return Err(AccountFault::IndexOutside);
+        };
+        let Some(waiting) = self.waiting_after(&indices) else {
+            return Err(AccountFault::TooManyKwh);
+        };
+        Ok(Account {
+            state,
+            profile: self.profile,
+            next: self.next,
+            indices,
+            waiting,
+            balance: self.balance,
+        })
+    }
+}
