@@ -12,11 +12,12 @@ use Rattle.std.proofs.shelf.Bits.{mod-below}
 use Rattle.facts.specs.declared.kind.Kind.{Kind}
 use Rattle.facts.specs.declared.kind.Kind.the-variants.{Unused, General, NightReserved, Interruptible}
 use Rattle.facts.specs.Limits.{kwhFits}
+use Rattle.account.specs.declared.figure.Figure.the-variants.{Waiting}
 use Rattle.account.specs.declared.hours.Hours.{Hours}
 use Rattle.account.specs.declared.hours.Hours.the-variants.{Day, Night}
 use Rattle.account.specs.declared.state.State.{State}
 use Rattle.account.specs.declared.state.State.the-variants.{Vacant, Running, Ready}
-use Rattle.account.specs.Registers.{registerSize, registerOf, kindOf, waitingFits, WaitingLimits}
+use Rattle.account.specs.Registers.{registerSize, registerOf, kindOf, registerFits, RegisterLimits}
 use Rattle.account.specs.Tenancy.{Tenancy}
 use Rattle.account.specs.Steps.{counted, joined, joinFits, nothing}
 
@@ -41,7 +42,7 @@ kwh-join NightReserved x d h b m = grind (arith, tells)
 kwh-join Interruptible x d h b m = grind (arith, tells)
 
 -- what waits is within its circuit's limit, whatever the state
-pub waits-within : (s : State) (kinds : List Kind) (waiting : List ℕ) (i : ℕ) → waitingFits s kinds waiting i ≡ true → kwhFits (kindOf kinds i) (getD waiting i 0) ≡ true
+pub waits-within : (s : State) (kinds : List Kind) (waiting : List ℕ) (i : ℕ) → registerFits (Waiting s) kinds waiting i ≡ true → kwhFits (kindOf kinds i) (getD waiting i 0) ≡ true
 waits-within Vacant kinds waiting i h = absurd (let z : _≡_ {A = ℕ} 0 1 = cc in omega arith)
 waits-within Running kinds waiting i h = no-kwh-fit (kindOf kinds i) (getD waiting i 0) h
 waits-within Ready kinds waiting i h = h
@@ -53,14 +54,14 @@ size-positive NightReserved = omega arith
 size-positive Interruptible = omega arith
 
 -- what waits after a reading that fits is within its circuit's limit
-pub joined-within : (t : Tenancy) (new : List ℕ) (i : ℕ) → waitingFits (t .state) (t .dwelling .kinds) (t .waiting) i ≡ true → joinFits t new i ≡ true → kwhFits (kindOf (t .dwelling .kinds) i) (joined t new i) ≡ true
+pub joined-within : (t : Tenancy) (new : List ℕ) (i : ℕ) → registerFits (Waiting (t .state)) (t .dwelling .kinds) (t .waiting) i ≡ true → joinFits t new i ≡ true → kwhFits (kindOf (t .dwelling .kinds) i) (joined t new i) ≡ true
 joined-within t new i h f =
     let k : Kind = kindOf (t .dwelling .kinds) i in
     let m : joined t new i ≤ 100000 = grind (arith, tells) in
     kwh-join k (getD (t .waiting) i 0) (counted t new i) (waits-within (t .state) (t .dwelling .kinds) (t .waiting) i h) (mod-below _ (registerSize k) (size-positive k)) m
 
 -- a running account may have nothing waiting
-pub nothing-waits : (kinds : List Kind) (i : ℕ) → i < 12 → waitingFits Running kinds nothing i ≡ true
+pub nothing-waits : (kinds : List Kind) (i : ℕ) → i < 12 → registerFits (Waiting Running) kinds nothing i ≡ true
 nothing-waits kinds i h = ap (λ x. eqb x 0) (getD-replicate 12 i 0 0 h)
 
 pub register-below : (h : Hours) (circuit : ℕ) → circuit < 6 → registerOf h circuit < 12
@@ -72,10 +73,10 @@ circuit-of Day circuit = omega arith
 circuit-of Night circuit = omega arith
 
 -- what waits on a circuit is within its limit
-pub circuit-within : (s : State) (kinds : List Kind) (waiting : List ℕ) → WaitingLimits s kinds waiting → (h : Hours) (circuit : ℕ) → circuit < 6 → kwhFits (getD kinds circuit Unused) (getD waiting (registerOf h circuit) 0) ≡ true
+pub circuit-within : (s : State) (kinds : List Kind) (waiting : List ℕ) → RegisterLimits (Waiting s) kinds waiting → (h : Hours) (circuit : ℕ) → circuit < 6 → kwhFits (getD kinds circuit Unused) (getD waiting (registerOf h circuit) 0) ≡ true
 circuit-within s kinds waiting w h circuit b =
     subst (λ n. kwhFits (getD kinds n Unused) (getD waiting (registerOf h circuit) 0) ≡ true) (circuit-of h circuit)
     (waits-within s kinds waiting (registerOf h circuit) (w (registerOf h circuit) (register-below h circuit b)))
 
-pub circuit-most : (s : State) (kinds : List Kind) (waiting : List ℕ) → WaitingLimits s kinds waiting → (h : Hours) (circuit : ℕ) → circuit < 6 → getD waiting (registerOf h circuit) 0 ≤ 100000
+pub circuit-most : (s : State) (kinds : List Kind) (waiting : List ℕ) → RegisterLimits (Waiting s) kinds waiting → (h : Hours) (circuit : ℕ) → circuit < 6 → getD waiting (registerOf h circuit) 0 ≤ 100000
 circuit-most s kinds waiting w h circuit b = kwh-most (getD kinds circuit Unused) (getD waiting (registerOf h circuit) 0) (circuit-within s kinds waiting w h circuit b)

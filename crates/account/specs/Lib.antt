@@ -4,4 +4,5 @@ pub mod Registers
 pub mod Balances
 pub mod Tenancy
 pub mod Waiting
+pub mod Forms
 pub mod Steps

@@ -21,10 +21,11 @@ use Rattle.account.specs.declared.event.EventKind.the-variants.{Opening, Readi
 use Rattle.account.specs.declared.event.OpeningForm.{OpeningForm}
 use Rattle.account.specs.declared.event.Event.{Event}
 use Rattle.account.specs.declared.event.Event.the-variants.{Open, Read, Settle, Pay, Close}
+use Rattle.account.specs.declared.figure.Figure.the-variants.{Index}
 use Rattle.account.specs.declared.state.State.{State}
 use Rattle.account.specs.declared.state.State.the-variants.{Vacant}
 use Rattle.account.specs.States.{after}
-use Rattle.account.specs.Registers.{registerSize, kindOf, twelve, indicesAt, difference}
+use Rattle.account.specs.Registers.{registerSize, kindOf, twelve, figuresAt, difference}
 use Rattle.account.specs.Balances.{balanceFits, isZero}
 use Rattle.account.specs.Tenancy.{Tenancy}
 
@@ -43,7 +44,7 @@ startedAt f s d (Some indices) =
 -- the same, where the profile is one and its registers can show the starting indices
 abbrev pub openedAt : OpeningForm → State → Result Dwelling FactsFault → Result Tenancy AccountFault
 openedAt f s (Err e) = Err OutsideRules
-openedAt f s (Ok d) = startedAt f s d (indicesAt (d .kinds) (f .indices))
+openedAt f s (Ok d) = startedAt f s d (figuresAt Index (d .kinds) (f .indices))
 
 -- opening
 abbrev pub opened : OpeningForm → State → Result Tenancy AccountFault
@@ -78,7 +79,7 @@ readAt s t (Some new) = joinedAt s t new (waitingAfter t new)
 
 -- reading
 abbrev pub readTo : List ℕ → Tenancy → Result Tenancy AccountFault
-readTo new t = chained (after (t .state) Reading) (λ s. readAt s t (indicesAt (t .dwelling .kinds) new))
+readTo new t = chained (after (t .state) Reading) (λ s. readAt s t (figuresAt Index (t .dwelling .kinds) new))
 
 -- the months from u up to e, both of them counted
 abbrev pub monthsFrom : ℕ → ℕ → ℕ

@@ -2,7 +2,8 @@
 ghost use mathlib.Core.Path.{_≡_};
 ghost use mathlib.Core.Bool.{true};
 ghost use Prim.Native.Nat.{_≤_};
-ghost use Rattle.account.specs.Registers.{IndexLimits, WaitingLimits};
+ghost use Rattle.account.specs.declared.figure.Figure.the-variants.{Index, Waiting};
+ghost use Rattle.account.specs.Registers.{RegisterLimits};
 ghost use Rattle.account.specs.Balances.{balanceFits};
 use crate::state::State;
 use facts::Profile;
@@ -17,7 +18,7 @@ pub struct Account {
     pub waiting: [u32; 12],
     pub balance: i64,
     ghost month: { next ≤ 1200 },
-    ghost shown: { IndexLimits (profile .kinds) indices },
-    ghost unsettled: { WaitingLimits state (profile .kinds) waiting },
+    ghost shown: { RegisterLimits Index (profile .kinds) indices },
+    ghost unsettled: { RegisterLimits (Waiting state) (profile .kinds) waiting },
     ghost owed: { balanceFits balance ≡ true },
 }

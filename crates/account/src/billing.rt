@@ -1,16 +1,13 @@
 // Settlements, payments and closings.
 ghost use mathlib.Core.Path.{_≡_};
-ghost use Prim.Native.Nat.{_≤_};
 ghost use Rattle.facts.specs.Forms.{made};
-ghost use Rattle.account.specs.Balances.{balanceFits};
 ghost use Rattle.account.specs.Tenancy.{tenancyOf};
 ghost use Rattle.account.specs.Steps.{periodFits, monthsTo, settled, paid, closed};
 use crate::account::Account;
+use crate::balances::balance_fits;
 use crate::event::EventKind;
 use crate::fault::AccountFault;
 
-// The most cents that may be owed, on either side.
-const MOST_BALANCE: i64 = 1_000_000_000_000;
 // The most cents that can change a balance from one limit to the other.
 const MOST_CENTS: u64 = 2_000_000_000_000;
 // The most cents of a payment.
@@ -19,13 +16,6 @@ const MOST_PAYMENT: u64 = 1_000_000_000;
 const MOST_MONTHS: u64 = 12;
 // The last month that can be settled.
 const LAST_MONTH: u64 = 1_199;
-
-// Whether an account may have this balance.
-fn balance_fits(balance: i64) -> bool
-    ensures { λ r. ⌜ r ≡ balanceFits balance ⌝ }
-{
-    -MOST_BALANCE <= balance && balance <= MOST_BALANCE
-}
 
 // Whether the months from one up to another are a period.
 fn period_fits(next: u16, end: u64) -> bool

@@ -7,7 +7,8 @@ use crate::account::Account;
 use crate::event::EventKind;
 use crate::event::OpeningForm;
 use crate::fault::AccountFault;
-use crate::registers::indices_from;
+use crate::figure::Figure;
+use crate::registers::figures_from;
 use crate::state::State;
 use facts::Profile;
 
@@ -23,7 +24,7 @@ impl Account {
         let Ok(profile) = Profile::new(&form.profile) else {
             return Err(AccountFault::OutsideRules);
         };
-        let Some(indices) = indices_from(&profile.kinds, &form.indices) else {
+        let Some(indices) = figures_from(Figure::Index, &profile.kinds, &form.indices) else {
             return Err(AccountFault::OutsideRules);
         };
         if form.first > LAST_MONTH {

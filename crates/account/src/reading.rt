@@ -3,14 +3,16 @@ ghost use mathlib.Core.Path.{_≡_};
 ghost use Rattle.std.specs.Slices.{found};
 ghost use Rattle.facts.specs.Forms.{made};
 ghost use Rattle.account.specs.declared.state.State.the-variants.{Ready};
-ghost use Rattle.account.specs.Registers.{IndexLimits, WaitingLimits};
+ghost use Rattle.account.specs.declared.figure.Figure.the-variants.{Index, Waiting};
+ghost use Rattle.account.specs.Registers.{RegisterLimits};
 ghost use Rattle.account.specs.Tenancy.{tenancyOf};
 ghost use Rattle.account.specs.Steps.{waitingAfter, readTo};
 use crate::account::Account;
 use crate::event::EventKind;
 use crate::fault::AccountFault;
+use crate::figure::Figure;
 use crate::registers::counted;
-use crate::registers::indices_from;
+use crate::registers::figures_from;
 use crate::registers::kind_of;
 use crate::registers::register_size;
 
@@ -20,9 +22,9 @@ const MOST_KWH: u32 = 100_000;
 impl Account {
     // What waits in each register after a reading of these indices, where that is within its limit.
     fn waiting_after(&self, indices: &[u32; 12]) -> Option<[u32; 12]>
-        requires { ⌜ IndexLimits (now self .profile .kinds) (now indices) ⌝ }
+        requires { ⌜ RegisterLimits Index (now self .profile .kinds) (now indices) ⌝ }
         ensures value { λ r. ⌜ r ≡ waitingAfter (tenancyOf (now (self .entry))) (now (indices .entry)) ⌝ }
-        ensures limits { λ r. ⌜ found r (WaitingLimits Ready (now (self .entry) .profile .kinds)) ⌝ }
+        ensures limits { λ r. ⌜ found r (RegisterLimits (Waiting Ready) (now (self .entry) .profile .kinds)) ⌝ }
     {
         let mut waiting = [0u32; 12];
         for (i, index) in indices.iter().enumerate() {
@@ -43,7 +45,7 @@ impl Account {
         ensures { λ r. ⌜ made tenancyOf r ≡ readTo (now (indices .entry)) (tenancyOf self) ⌝ }
     {
         let state = self.state.after(EventKind::Reading)?;
-        let Some(indices) = indices_from(&self.profile.kinds, indices) else {
+        let Some(indices) = figures_from(Figure::Index, &self.profile.kinds, indices) else {
             return Err(AccountFault::IndexOutside);
         };
         let Some(waiting) = self.waiting_after(&indices) else {

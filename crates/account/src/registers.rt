@@ -1,12 +1,17 @@
-// Registers: what they can show, and what they counted between two readings.
+// Registers: what they may have, and what they counted between two readings.
 ghost use mathlib.Core.Path.{_≡_};
+ghost use mathlib.Core.Bool.{true};
 ghost use Prim.Native.Nat.{_≤_, _<_};
 ghost use Rattle.std.specs.Slices.{found};
-ghost use Rattle.account.specs.Registers.{registerSize, kindOf, difference, indicesAt, IndexLimits};
+ghost use Rattle.account.specs.Registers.{registerSize, kindOf, difference, figureFits, figuresAt, RegisterLimits};
+use crate::figure::Figure;
+use crate::state::State;
 use facts::Kind;
 
 // The number of indices that a used circuit's register can show.
 const SIX_DIGITS: u32 = 1_000_000;
+// The most kWh that may wait in a register.
+const MOST_KWH: u64 = 100_000;
 
 // How many indices a register can show: six digits, and 0 alone where the circuit is unused.
 pub(crate) fn register_size(kind: Kind) -> u32
@@ -36,17 +41,35 @@ pub(crate) fn kind_of(kinds: &[Kind; 6], register: usize) -> Kind
     kinds[register / 2]
 }
 
-// The indices of twelve registers, where each can show its own.
-pub(crate) fn indices_from(kinds: &[Kind; 6], numbers: &[u64; 12]) -> Option<[u32; 12]>
-    ensures value { λ r. ⌜ r ≡ indicesAt (now (kinds .entry)) (now (numbers .entry)) ⌝ }
-    ensures limits { λ r. ⌜ found r (IndexLimits (now (kinds .entry))) ⌝ }
+// Whether a register of such a circuit may have this number.
+fn figure_fits(figure: Figure, kind: Kind, number: u64) -> bool
+    ensures value { λ r. ⌜ r ≡ figureFits figure kind number ⌝ }
+    ensures bound { λ r. ⌜ (r ≡ true → number ≤ 1000000) ⌝ }
 {
-    let mut indices = [0u32; 12];
+    match (figure, kind) {
+        (Figure::Index, _) => number < register_size(kind) as u64,
+        (Figure::Waiting(State::Vacant), _) => false,
+        (Figure::Waiting(State::Running), _) => number == 0,
+        (Figure::Waiting(State::Ready), Kind::Unused) => number == 0,
+        (Figure::Waiting(State::Ready), _) => number <= MOST_KWH,
+    }
+}
+
+// The figures of twelve registers, where each may have its number.
+pub(crate) fn figures_from(
+    figure: Figure,
+    kinds: &[Kind; 6],
+    numbers: &[u64; 12],
+) -> Option<[u32; 12]>
+    ensures value { λ r. ⌜ r ≡ figuresAt figure (now (kinds .entry)) (now (numbers .entry)) ⌝ }
+    ensures limits { λ r. ⌜ found r (RegisterLimits figure (now (kinds .entry))) ⌝ }
+{
+    let mut figures = [0u32; 12];
     for (i, number) in numbers.iter().enumerate() {
-        if *number >= register_size(kind_of(kinds, i)) as u64 {
+        if !figure_fits(figure, kind_of(kinds, i), *number) {
             return None;
         }
-        indices[i] = *number as u32;
+        figures[i] = *number as u32;
     }
-    Some(indices)
+    Some(figures)
 }
