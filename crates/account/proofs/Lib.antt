@@ -1,2 +1,4 @@
 pub mod Kwh
 pub mod Following
+pub mod Remaking
+pub mod Keeping

@@ -1,6 +1,6 @@
 -- Which numbers are an account.
 use mathlib.Core.Bool.{cond, _&&_}
-use mathlib.Core.List.{List}
+use mathlib.Core.List.{List, map}
 use Prim.Native.Nat.{ℕ}
 use lib.Dec.{leb}
 use Rattle.std.specs.declared.option.Option.{Option}
@@ -8,6 +8,8 @@ use Rattle.std.specs.declared.option.Option.the-variants.{Some, None}
 use Rattle.std.specs.declared.result.Result.{Result}
 use Rattle.std.specs.declared.result.Result.the-variants.{Ok, Err}
 use Rattle.facts.specs.declared.form.FactsFault.{FactsFault}
+use Rattle.facts.specs.declared.form.ProfileForm.{ProfileForm}
+use Rattle.facts.specs.Numbers.{classNumber, marksNumber, kindNumber}
 use Rattle.facts.specs.Usage.{Dwelling}
 use Rattle.facts.specs.Forms.{profileMade}
 use Rattle.account.specs.declared.fault.AccountFault.{AccountFault}
@@ -15,7 +17,7 @@ use Rattle.account.specs.declared.fault.AccountFault.the-variants.{BrokenRow}
 use Rattle.account.specs.declared.figure.Figure.the-variants.{Index, Waiting}
 use Rattle.account.specs.declared.form.AccountForm.{AccountForm}
 use Rattle.account.specs.declared.state.State.{State}
-use Rattle.account.specs.States.{stateAt}
+use Rattle.account.specs.States.{stateNumber, stateAt}
 use Rattle.account.specs.Registers.{figuresAt}
 use Rattle.account.specs.Balances.{balanceFits}
 use Rattle.account.specs.Tenancy.{Tenancy}
@@ -41,3 +43,23 @@ profileKnown f (Some s) (Ok d) = registersMade f s d
 abbrev pub accountMade : AccountForm → Result Tenancy AccountFault
 accountMade f =
     cond (leb (f .next) 1200 && balanceFits (f .balance)) (profileKnown f (stateAt (f .state)) (profileMade (f .profile))) (Err BrokenRow)
+
+-- the numbers of an account
+abbrev pub profileFormOf : Dwelling → ProfileForm
+profileFormOf d = record {
+  class = classNumber (d .class);
+  marks = marksNumber (d .marks);
+  power = d .power;
+  exempt = d .exempt;
+  kinds = map kindNumber (d .kinds);
+}
+
+abbrev pub formOf : Tenancy → AccountForm
+formOf t = record {
+  state = stateNumber (t .state);
+  profile = profileFormOf (t .dwelling);
+  next = t .next;
+  indices = t .indices;
+  waiting = t .waiting;
+  balance = t .balance;
+}

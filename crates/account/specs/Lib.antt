@@ -6,3 +6,4 @@ pub mod Tenancy
 pub mod Waiting
 pub mod Forms
 pub mod Steps
+pub mod Kept

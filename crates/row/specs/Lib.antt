@@ -1,0 +1,4 @@
+pub mod Bytes
+pub mod Written
+pub mod Rows
+pub mod Laws
