@@ -1,8 +1,7 @@
 -- The state that follows each kind of event.
-use mathlib.Core.Path.{_≡_, refl, sym, subst}
-use mathlib.Core.Bool.{true}
+use mathlib.Core.Path.{_≡_, refl}
 use Rattle.std.specs.declared.result.Result.the-variants.{Ok}
-use Rattle.account.specs.declared.event.EventKind.the-variants.{Opening, Reading, Settlement, Payment, Closing}
+use Rattle.account.specs.declared.event.EventKind.the-variants.{Opening, Reading, Settlement, Payment}
 use Rattle.account.specs.declared.state.State.{State}
 use Rattle.account.specs.declared.state.State.the-variants.{Vacant, Running, Ready}
 use Rattle.account.specs.States.{after}
@@ -26,3 +25,8 @@ pub payment-stays : (s next : State) → Ok next ≡ after s Payment → next �
 payment-stays Vacant next h = cc
 payment-stays Running next h = cc
 payment-stays Ready next h = cc
+
+pub settlement-was-ready : (s next : State) → Ok next ≡ after s Settlement → s ≡ Ready
+settlement-was-ready Vacant next h = cc
+settlement-was-ready Running next h = cc
+settlement-was-ready Ready next h = refl

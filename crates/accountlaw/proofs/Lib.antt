@@ -1,0 +1,4 @@
+pub mod Accepted
+pub mod Moving
+pub mod Meters
+pub mod Staying
