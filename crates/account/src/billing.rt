@@ -14,8 +14,8 @@ const MOST_CENTS: u64 = 2_000_000_000_000;
 const MOST_PAYMENT: u64 = 1_000_000_000;
 // The most months of a period.
 const MOST_MONTHS: u64 = 12;
-// The last month that can be settled.
-const LAST_MONTH: u64 = 1_199;
+// The last month that an account can start with, or be settled for.
+pub(crate) const LAST_MONTH: u64 = 1_199;
 
 // Whether the months from one up to another are a period.
 fn period_fits(next: u16, end: u64) -> bool
@@ -86,6 +86,7 @@ impl Account {
             balance,
         })
     }
+
     // Whether the account may be closed; nothing is left of it then.
     pub fn close(self) -> Result<(), AccountFault>
         ensures { λ r. ⌜ r ≡ closed (tenancyOf self) ⌝ }

@@ -9,6 +9,7 @@ ghost use Rattle.account.specs.Tenancy.{tenancyOf};
 ghost use Rattle.account.specs.Forms.{registersMade, accountMade};
 use crate::account::Account;
 use crate::balances::balance_fits;
+use crate::billing::LAST_MONTH;
 use crate::fault::AccountFault;
 use crate::figure::Figure;
 use crate::form::AccountForm;
@@ -17,7 +18,7 @@ use crate::state::State;
 use facts::Profile;
 
 // The largest next month, behind the last that can be settled.
-const MOST_NEXT: u64 = 1_200;
+const MOST_NEXT: u64 = LAST_MONTH + 1;
 
 impl Account {
     // The account of this state and profile, where its registers may have the form's figures.

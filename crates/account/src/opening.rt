@@ -4,6 +4,7 @@ ghost use Rattle.facts.specs.Forms.{made};
 ghost use Rattle.account.specs.Tenancy.{tenancyOf};
 ghost use Rattle.account.specs.Steps.{opened};
 use crate::account::Account;
+use crate::billing::LAST_MONTH;
 use crate::event::EventKind;
 use crate::event::OpeningForm;
 use crate::fault::AccountFault;
@@ -11,9 +12,6 @@ use crate::figure::Figure;
 use crate::registers::figures_from;
 use crate::state::State;
 use facts::Profile;
-
-// The last month that an account can start with.
-const LAST_MONTH: u64 = 1_199;
 
 impl Account {
     // The account of an opening, where what stands at its number takes one.

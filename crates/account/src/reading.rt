@@ -11,13 +11,11 @@ use crate::account::Account;
 use crate::event::EventKind;
 use crate::fault::AccountFault;
 use crate::figure::Figure;
-use crate::registers::counted;
+use crate::registers::MOST_KWH;
 use crate::registers::figures_from;
+use crate::registers::joined;
 use crate::registers::kind_of;
 use crate::registers::register_size;
-
-// The most kWh of a register, in a reading or waiting.
-const MOST_KWH: u32 = 100_000;
 
 impl Account {
     // What waits in each register after a reading of these indices, where that is within its limit.
@@ -29,7 +27,7 @@ impl Account {
         let mut waiting = [0u32; 12];
         for (i, index) in indices.iter().enumerate() {
             let size = register_size(kind_of(&self.profile.kinds, i));
-            let kwh = self.waiting[i] + counted(size, self.indices[i], *index);
+            let kwh = joined(size, self.waiting[i], self.indices[i], *index);
             if kwh > MOST_KWH {
                 return None;
             }
@@ -37,9 +35,7 @@ impl Account {
         }
         Some(waiting)
     }
-}
 
-impl Account {
     // The account after a reading of these indices.
     pub fn read(self, indices: &[u64; 12]) -> Result<Account, AccountFault>
         ensures { λ r. ⌜ made tenancyOf r ≡ readTo (now (indices .entry)) (tenancyOf self) ⌝ }

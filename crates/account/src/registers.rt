@@ -1,7 +1,7 @@
 // Registers: what they may have, and what they counted between two readings.
 ghost use mathlib.Core.Path.{_≡_};
 ghost use mathlib.Core.Bool.{true};
-ghost use Prim.Native.Nat.{_≤_, _<_};
+ghost use Prim.Native.Nat.{_+_, _≤_, _<_};
 ghost use Rattle.std.specs.Slices.{found};
 ghost use Rattle.account.specs.Registers.{registerSize, kindOf, difference, figureFits, figuresAt, RegisterLimits};
 use crate::figure::Figure;
@@ -10,8 +10,8 @@ use facts::Kind;
 
 // The number of indices that a used circuit's register can show.
 const SIX_DIGITS: u32 = 1_000_000;
-// The most kWh that may wait in a register.
-const MOST_KWH: u64 = 100_000;
+// The most kWh that a reading may count on a register, and that may wait in it.
+pub(crate) const MOST_KWH: u32 = 100_000;
 
 // How many indices a register can show: six digits, and 0 alone where the circuit is unused.
 pub(crate) fn register_size(kind: Kind) -> u32
@@ -24,13 +24,12 @@ pub(crate) fn register_size(kind: Kind) -> u32
     }
 }
 
-// The kWh that a register of this size counted from one index to another.
-pub(crate) fn counted(size: u32, old: u32, new: u32) -> u32
-    requires { ⌜ old < size ⌝ ∗ ⌜ new < size ⌝ ∗ ⌜ size ≤ 1000000 ⌝ }
-    ensures value { λ r. ⌜ r ≡ difference size old new ⌝ }
-    ensures bound { λ r. ⌜ r < size ⌝ }
+// What waits in a register of this size after it went from one index to another.
+pub(crate) fn joined(size: u32, waiting: u32, old: u32, new: u32) -> u32
+    requires { ⌜ old < size ⌝ ∗ ⌜ new < size ⌝ ∗ ⌜ size ≤ 1000000 ⌝ ∗ ⌜ waiting ≤ 100000 ⌝ }
+    ensures { λ r. ⌜ r ≡ waiting + difference size old new ⌝ }
 {
-    (new + size - old) % size
+    waiting + (new + size - old) % size
 }
 
 // The kind of the circuit that a register belongs to.
@@ -51,7 +50,7 @@ fn figure_fits(figure: Figure, kind: Kind, number: u64) -> bool
         (Figure::Waiting(State::Vacant), _) => false,
         (Figure::Waiting(State::Running), _) => number == 0,
         (Figure::Waiting(State::Ready), Kind::Unused) => number == 0,
-        (Figure::Waiting(State::Ready), _) => number <= MOST_KWH,
+        (Figure::Waiting(State::Ready), _) => number <= MOST_KWH as u64,
     }
 }
 

@@ -2,6 +2,7 @@ use mathlib.Core.Path.{_≡_, ap, sym, subst, _∙_}
 use mathlib.Core.Bool.{true, false}
 use Prim.Native.Nat.{ℕ, _+_, _<_, _≤_}
 use native.Mathlib.Omega.{arith}
+use borrow.Author.Needs.{needs}
 use lib.ListN.{length, getD, length-set}
 use Rattle.std.proofs.shelf.Ways.{tells}
 use Rattle.std.proofs.shelf.Edits.{fill-by-more}
@@ -12,23 +13,23 @@ use Rattle.common.proofs.Counted.{allTo-more, allTo-not, allTo-at}
 use Rattle.facts.specs.Limits.{kwhFits}
 use Rattle.account.specs.Registers.{kindOf, registerSize, difference}
 use Rattle.account.specs.Tenancy.{Tenancy, tenancyOf}
-use Rattle.account.specs.Steps.{counted, joined, joinFits}
+use Rattle.account.specs.Steps.{joined, joinFits}
 use Rattle.account.proofs.Kwh.{kwh-most, waits-within, joined-within}
 use Rattle.account.proofs.account.Account.waiting_after.Needs as need
 
-pub add-kwh : need.add-kwh
-add-kwh c =
+pub joined-kwh-requires : need.joined-kwh-requires
+joined-kwh-requires c κs =
     let a = c .args .self .now in
     let i : ℕ = c .loop-i .i in
     let w : getD (a .waiting) i 0 ≤ 100000 = kwh-most (kindOf (a .profile .kinds) i) (getD (a .waiting) i 0) (waits-within (a .state) (a .profile .kinds) (a .waiting) i (a .unsettled i (omega arith))) in
-    omega arith
+    search needs
 
 pub returns-then-kwh-gt-MOST-KWH : need.returns-then-kwh-gt-MOST-KWH
 returns-then-kwh-gt-MOST-KWH c =
     let t : Tenancy = tenancyOf (c .args .self .now) in
     let s = c .register-size-size .ensures .value in
     let k = ap registerSize (c .kind-of .ensures) in
-    let d : c .counted .result ≡ counted t (c .args .indices .now) (c .loop-i .i) = cc in
+    let d : c .joined-kwh .result ≡ joined t (c .args .indices .now) (c .loop-i .i) = cc in
     let f : joinFits t (c .args .indices .now) (c .loop-i .i) ≡ false = grind (arith, tells) in
     record { value = rw (allTo-not (joinFits t (c .args .indices .now)) 12 (c .loop-i .i) (omega arith) f); limits = tt }
 
@@ -38,7 +39,7 @@ loop-i-again c =
     let h : c .loop-i .i < length (c .loop-i .waiting) = omega arith in
     let s = c .register-size-size .ensures .value in
     let k = ap registerSize (c .kind-of .ensures) in
-    let d : c .counted .result ≡ counted t (c .args .indices .now) (c .loop-i .i) = cc in
+    let d : c .joined-kwh .result ≡ joined t (c .args .indices .now) (c .loop-i .i) = cc in
     let f : joinFits t (c .args .indices .now) (c .loop-i .i) ≡ true = grind (arith, tells) in
     let m = allTo-more (joinFits t (c .args .indices .now)) (c .loop-i .i) in (
       simp length-set (c .loop-i .inv .0),
