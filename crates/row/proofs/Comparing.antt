@@ -1,11 +1,10 @@
 -- Comparing bytes decides whether they are the same.
-use mathlib.Core.Path.{_≡_, refl, sym, _∙_, ap}
+use mathlib.Core.Path.{_≡_, refl}
 use mathlib.Core.List.{List, [], _∷_}
-use mathlib.Core.Bool.{true}
+use mathlib.Core.Bool.{true, false}
 use Prim.Native.Nat.{ℕ}
 use native.Mathlib.Omega.{arith}
 use lib.Dec.{eqb}
-use Rattle.std.specs.Orderings.{Decides}
 use Rattle.std.proofs.shelf.Ways.{tells}
 use Rattle.common.proofs.Outcomes.{both-true}
 use Rattle.row.specs.Rows.{sameBytes}
@@ -30,5 +29,7 @@ same-is (x ∷ xs) (y ∷ ys) h =
     let q = same-is xs ys (b .1) in
     cc
 
-pub same-decides : (xs ys : List ℕ) → Decides (sameBytes xs ys) (xs ≡ ys)
-same-decides xs ys = (same-is xs ys, λ e. ap (sameBytes xs) (sym e) ∙ same-refl xs)
+-- bytes that are not the same differ
+pub not-from-apart : (xs ys : List ℕ) → (xs ≡ ys → ⊥) → sameBytes xs ys ≡ false
+not-from-apart xs ys d =
+    elim (sameBytes xs ys) as (λ b. (b ≡ true → xs ≡ ys) → b ≡ false) [ true ↦ (λ w. absurd (d (w refl))) | false ↦ (λ w. refl) ] (same-is xs ys)

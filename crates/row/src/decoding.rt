@@ -1,6 +1,8 @@
 // Reading an account from its row.
 ghost use mathlib.Core.Path.{_≡_};
-ghost use Prim.Native.Nat.{_+_, _≤_};
+ghost use mathlib.Core.Bool.{true, false};
+ghost use Prim.Native.Nat.{ℕ, _+_, _<_, _≤_};
+ghost use lib.ListN.{getD};
 ghost use mir.Val.{toZ};
 ghost use mir.Syntax.{w64};
 ghost use Rattle.facts.specs.Forms.{made};
@@ -83,13 +85,26 @@ fn form_at(row: &[u8; 128]) -> AccountForm
     }
 }
 
+// Whether two rows are the same, every byte looked at.
+fn is_same(left: &[u8; 128], right: &[u8; 128]) -> bool
+    ensures same { λ r. ⌜ (r ≡ true → (k : ℕ) → k < 128 → getD (now (left .entry)) k 0 ≡ getD (now (right .entry)) k 0) ⌝ }
+    ensures differs { λ r. ⌜ (r ≡ false → now (left .entry) ≡ now (right .entry) → ⊥) ⌝ }
+{
+    for i in 0..128usize {
+        if left[i] != right[i] {
+            return false;
+        }
+    }
+    true
+}
+
 // The account that has this row: the one that its numbers make, if these bytes are its row.
 pub fn decode(row: &[u8; 128]) -> Result<Account, AccountFault>
     ensures value { λ r. ⌜ made tenancyOf r ≡ accountOf (now (row .entry)) ⌝ }
     ensures whose { λ r. ⌜ ReadFrom (now (row .entry)) (made tenancyOf r) ⌝ }
 {
     let account = Account::new(&form_at(row))?;
-    if encode(&account) != *row {
+    if !is_same(&encode(&account), row) {
         return Err(AccountFault::BrokenRow);
     }
     Ok(account)

@@ -3,10 +3,12 @@ ghost use mathlib.Core.Path.{_≡_};
 ghost use mathlib.Core.List.{[], _∷_, _++_, map};
 ghost use Prim.Native.Nat.{_+_, _<_, _≤_};
 ghost use lib.ListN.{length};
+ghost use mir.Val.{ofZ};
+ghost use mir.Syntax.{w64};
 ghost use Rattle.std.specs.shelf.Lists.{joined};
 ghost use Rattle.facts.specs.Numbers.{kindNumber};
 ghost use Rattle.account.specs.Tenancy.{tenancyOf};
-ghost use Rattle.row.specs.Bytes.{be32};
+ghost use Rattle.row.specs.Bytes.{be32, be64};
 ghost use Rattle.row.specs.Written.{written};
 ghost use Rattle.row.specs.Rows.{headOf, rowOf};
 use crate::writer::Writer;
@@ -76,6 +78,14 @@ impl Writer {
         self.put_all(&account.profile.exempt.to_be_bytes());
     }
 
+    fn put_balance(&mut self, balance: i64)
+        requires { ⌜ now self .at + 8 ≤ 128 ⌝ }
+        ensures text { λ _. ⌜ written (now (self .exit)) ≡ written (now (self .entry)) ++ be64 (ofZ w64 balance) ⌝ }
+        ensures at { λ _. ⌜ now (self .exit) .at ≡ now (self .entry) .at + 8 ⌝ }
+    {
+        self.put_all(&balance.to_be_bytes());
+    }
+
     fn finish(self) -> [u8; 128]
         requires { ⌜ self .at ≡ 128 ⌝ }
         ensures { λ r. ⌜ r ≡ written self ⌝ }
@@ -95,7 +105,7 @@ pub fn encode(account: &Account) -> [u8; 128]
     row.put_all(&account.next.to_be_bytes());
     row.put_words(&account.indices);
     row.put_words(&account.waiting);
-    row.put_all(&account.balance.to_be_bytes());
+    row.put_balance(account.balance);
     row.put_all(&[0; 9]);
     row.finish()
 }

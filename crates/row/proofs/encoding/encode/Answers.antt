@@ -11,4 +11,4 @@ unfolding rowOf
 returns c =
     let f : SFits w64 (c .args .account .now .balance) = search needs in
     let t = toZ-ofZ w64 (c .args .account .now .balance) f in
-    simp (c .finish .ensures, c .put-all-3 .ensures .text, c .put-all-2 .ensures .text, c .put-words-2 .ensures .text, c .put-words .ensures .text, c .put-all .ensures .text, c .put-kinds .ensures .text, c .put-head .ensures .text, c .new-row .ensures .text, c .to-be-bytes .ensures, c .to-be-bytes-2 .ensures, append-assoc, t)
+    simp (c .finish .ensures, c .put-all-2 .ensures .text, c .put-balance .ensures .text, c .put-words-2 .ensures .text, c .put-words .ensures .text, c .put-all .ensures .text, c .put-kinds .ensures .text, c .put-head .ensures .text, c .new-row .ensures .text, c .to-be-bytes .ensures, append-assoc, t)
