@@ -34,6 +34,7 @@ use Rattle.account.proofs.Following.{opening-runs, reading-readies, settlement-
 pub record Opened (f : OpeningForm) (u : Tenancy) : Type 0 where
   pub profile : profileMade (f .profile) ≡ Ok (u .dwelling)
   pub shown : figuresAt Index (u .dwelling .kinds) (f .indices) ≡ Some (u .indices)
+  pub next : u .next ≡ f .first
   pub month : u .next ≤ 1199
   pub state : u .state ≡ Running
   pub waiting : u .waiting ≡ nothing
@@ -48,7 +49,7 @@ started f d (Some xs) u p i h =
     let o = ok-if (leb (f .first) 1199) (Ok (record { state = Running; dwelling = d; next = f .first; indices = xs; waiting = nothing; balance = pos 0 })) OutsideRules u h in
     let z = o .1 in
     let e : record { state = Running; dwelling = d; next = f .first; indices = xs; waiting = nothing; balance = pos 0 } ≡ u = cc in
-    subst (Opened f) e (record { profile = p; shown = i; month = month-most (f .first) (o .0); state = refl; waiting = refl; balance = refl })
+    subst (Opened f) e (record { profile = p; shown = i; next = refl; month = month-most (f .first) (o .0); state = refl; waiting = refl; balance = refl })
 
 with-profile : (f : OpeningForm) (pd : Result Dwelling FactsFault) (u : Tenancy) → profileMade (f .profile) ≡ pd → openedAt f Running pd ≡ Ok u → Opened f u
 with-profile f (Err d) u p h = err-not-ok OutsideRules u h
