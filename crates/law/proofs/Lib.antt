@@ -1,0 +1,10 @@
+pub mod Twelve
+pub mod Growing
+pub mod Mono
+pub mod Fairness
+pub mod Loading
+pub mod Stepping
+pub mod Calling
+pub mod Events
+pub mod Billing
+pub mod Standings

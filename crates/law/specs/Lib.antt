@@ -1,0 +1,3 @@
+pub mod Transcript
+pub mod History
+pub mod Law
