@@ -1,0 +1,71 @@
+// One call made.
+ghost use mathlib.Core.Path.{_≡_};
+ghost use Rattle.cabinet.specs.Books.{booksOf};
+ghost use Rattle.law.specs.Transcript.{showing, replyOf, afterOf};
+ghost use Rattle.run.specs.Asked.{asked, told};
+use crate::answer::Answer;
+use crate::call::Call;
+use account::Account;
+use account::State;
+use board::Board;
+use cabinet::Cabinet;
+use facts::Class;
+use facts::Kind;
+use facts::Marks;
+use facts::Profile;
+use sheet::Sheet;
+
+// An account with nothing in it, as the place that a showing copies into.
+fn blank() -> Account {
+    let marks = Marks {
+        two_rate: false,
+        extension: false,
+        protected: false,
+    };
+    let profile = Profile {
+        class: Class::Residential,
+        marks,
+        power: 1,
+        exempt: 0,
+        kinds: [Kind::Unused; 6],
+    };
+    Account {
+        state: State::Running,
+        profile,
+        next: 0,
+        indices: [0; 12],
+        waiting: [0; 12],
+        balance: 0,
+    }
+}
+
+// Shows the account of a number.
+fn show<B: Board>(cabinet: &mut Cabinet<B>, number: u64) -> Answer
+    ensures answer { λ r. ⌜ told r ≡ replyOf (booksOf meaning (now (cabinet .entry))) (showing number) ⌝ }
+    ensures after { λ _. ⌜ booksOf meaning (now (cabinet .exit)) ≡ afterOf (booksOf meaning (now (cabinet .entry))) (showing number) ⌝ }
+{
+    let mut place = blank();
+    match cabinet.show(number, &mut place) {
+        Ok(true) => Answer::Shown(place),
+        Ok(false) => Answer::Vacant,
+        Err(fault) => Answer::Refused(fault.refusal()),
+    }
+}
+
+// Makes one call.
+pub fn apply<B: Board, S: Sheet>(cabinet: &mut Cabinet<B>, call: &Call<S>) -> Answer
+    ensures answer { λ r. ⌜ told r ≡ replyOf (booksOf meaning (now (cabinet .entry))) (asked tariff (now (call .entry))) ⌝ }
+    ensures after { λ _. ⌜ booksOf meaning (now (cabinet .exit)) ≡ afterOf (booksOf meaning (now (cabinet .entry))) (asked tariff (now (call .entry))) ⌝ }
+{
+    match call {
+        Call::Post { s, mx, nc } => Answer::of_posting(cabinet.post(*s, *mx, *nc)),
+        Call::Open { number, form } => Answer::of_deed(cabinet.open(*number, form)),
+        Call::Read { number, indices } => Answer::of_deed(cabinet.read(*number, indices)),
+        Call::Settle { number, end, sheet } => {
+            Answer::of_settlement(cabinet.settle(*number, *end, sheet))
+        }
+        Call::Pay { number, cents } => Answer::of_deed(cabinet.pay(*number, *cents)),
+        Call::Close { number } => Answer::of_deed(cabinet.close(*number)),
+        Call::Show { number } => show(cabinet, *number),
+    }
+}
