@@ -20,9 +20,9 @@ abbrev pub areHexDigits : List ℕ → Bool
 areHexDigits [] = true
 areHexDigits (b ∷ bs) = isHexDigit b && areHexDigits bs
 
--- `-` for no bytes, or two digits for each
+-- `-` for no bytes, or two digits for each; the empty word is neither
 abbrev pub isHex : List ℕ → Bool
-isHex word = isWord word (codes "-") || (eqb (length word % 2) 0 && areHexDigits word)
+isHex word = isWord word (codes "-") || (leb 1 (length word) && eqb (length word % 2) 0 && areHexDigits word)
 
 -- the byte of the i-th pair of digits
 abbrev pub byteAt : List ℕ → ℕ → ℕ

@@ -28,14 +28,14 @@ fn digit_of(byte: u8) -> u8
     }
 }
 
-// Whether a word stands for bytes: `-` for none, or two hexadecimal digits for each.
+// Whether a word stands for bytes: `-` for none, or two hexadecimal digits for each. Where no word stands, nothing stands for bytes.
 pub fn is_hex(word: &[u8]) -> bool
     ensures { λ r. ⌜ r ≡ isHex (now (word .entry)) ⌝ }
 {
     if is_word(word, b"-") {
         return true;
     }
-    if word.len() % 2 != 0 {
+    if word.is_empty() || word.len() % 2 != 0 {
         return false;
     }
     for byte in word {
