@@ -69,3 +69,15 @@ hadMemory answer.NoPlan = true
 hadMemory (answer.Refused r) = true
 hadMemory answer.Unreadable = true
 hadMemory answer.NoMemory = false
+
+-- the count of lines that were read, where an answer says one
+abbrev pub linesRead : Answer → Option ℕ
+linesRead (answer.Tenths n) = None
+linesRead (answer.Lines n) = Some n
+linesRead (answer.Parts fixed energy cents) = None
+linesRead answer.NotPermitted = None
+linesRead (answer.Plan code fixed energy cents) = None
+linesRead answer.NoPlan = None
+linesRead (answer.Refused r) = None
+linesRead answer.Unreadable = None
+linesRead answer.NoMemory = None

@@ -2,7 +2,7 @@
 ghost use mathlib.Core.Path.{_≡_};
 ghost use Rattle.house.specs.Houses.{linesOf};
 ghost use Rattle.script.specs.Lines.{said, lineOf};
-ghost use Rattle.pricelines.specs.Lines.{foundMemory, answerTo, linesAfter};
+ghost use Rattle.pricelines.specs.Lines.{foundMemory, answerTo, linesAfter, Moved};
 use crate::pricing::choose_answer;
 use crate::pricing::price_answer;
 use crate::pricing::rating_answer;
@@ -17,6 +17,7 @@ use std::alloc::Global;
 pub fn answer(heap: Global, line: Line<&[u8]>, house: &mut House) -> Option<Answer>
     ensures answer { λ r. ⌜ r ≡ answerTo (foundMemory r) (linesOf (now (house .entry))) (said (line .entry)) ⌝ }
     ensures after { λ r. ⌜ linesOf (now (house .exit)) ≡ linesAfter (foundMemory r) (said (line .entry)) (linesOf (now (house .entry))) ⌝ }
+    ensures moved { λ r. ⌜ Moved (linesOf (now (house .entry))) (linesOf (now (house .exit))) r ⌝ }
 {
     match line {
         Line::Silent => None,
@@ -32,6 +33,7 @@ pub fn answer(heap: Global, line: Line<&[u8]>, house: &mut House) -> Option<Answ
 pub fn answer_text(heap: Global, text: &[u8], house: &mut House) -> Option<Answer>
     ensures answer { λ r. ⌜ r ≡ answerTo (foundMemory r) (linesOf (now (house .entry))) (lineOf (now (text .entry))) ⌝ }
     ensures after { λ r. ⌜ linesOf (now (house .exit)) ≡ linesAfter (foundMemory r) (lineOf (now (text .entry))) (linesOf (now (house .entry))) ⌝ }
+    ensures moved { λ r. ⌜ Moved (linesOf (now (house .entry))) (linesOf (now (house .exit))) r ⌝ }
 {
     answer(heap, read_line(text), house)
 }

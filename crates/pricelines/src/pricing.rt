@@ -1,10 +1,11 @@
 // Lines that ask for a rating or a price.
 ghost use mathlib.Core.Path.{_≡_};
+ghost use Rattle.std.specs.declared.option.Option.the-variants.{None};
 ghost use Rattle.house.specs.Houses.{linesOf};
 ghost use Rattle.rating.specs.Ratings.{ratingOf};
 ghost use Rattle.facts.specs.Forms.{factsMade};
 ghost use Rattle.sheets.specs.Named.{tariffNamed};
-ghost use Rattle.pricelines.specs.Answers.{ratingAnswer, priceLineAnswer, chooseLineAnswer};
+ghost use Rattle.pricelines.specs.Answers.{ratingAnswer, priceLineAnswer, chooseLineAnswer, linesRead};
 use facts::Facts;
 use facts::FactsForm;
 use house::House;
@@ -28,7 +29,8 @@ pub fn rating_answer(network: u64, ampere: u64) -> Answer
 
 // `price SHEET CODE ..`
 pub fn price_answer(sheet: SheetName, code: u64, form: &FactsForm, house: &House) -> Answer
-    ensures { λ r. ⌜ r ≡ priceLineAnswer (tariffNamed sheet (linesOf (now (house .entry)))) code (factsMade (now (form .entry))) ⌝ }
+    ensures value { λ r. ⌜ r ≡ priceLineAnswer (tariffNamed sheet (linesOf (now (house .entry)))) code (factsMade (now (form .entry))) ⌝ }
+    ensures unmoved { λ r. ⌜ linesRead r ≡ None ⌝ }
 {
     let facts = match Facts::new(form) {
         Ok(facts) => facts,
@@ -42,7 +44,8 @@ pub fn price_answer(sheet: SheetName, code: u64, form: &FactsForm, house: &House
 
 // `choose SHEET ..`
 pub fn choose_answer(sheet: SheetName, form: &FactsForm, house: &House) -> Answer
-    ensures { λ r. ⌜ r ≡ chooseLineAnswer (tariffNamed sheet (linesOf (now (house .entry)))) (factsMade (now (form .entry))) ⌝ }
+    ensures value { λ r. ⌜ r ≡ chooseLineAnswer (tariffNamed sheet (linesOf (now (house .entry)))) (factsMade (now (form .entry))) ⌝ }
+    ensures unmoved { λ r. ⌜ linesRead r ≡ None ⌝ }
 {
     let facts = match Facts::new(form) {
         Ok(facts) => facts,
