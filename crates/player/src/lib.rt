@@ -8,6 +8,8 @@ use script::AnswerDisplay;
 use std::alloc::Global;
 use std::io;
 use std::io::BufRead;
+use std::io::BufReader;
+use std::io::BufWriter;
 use std::io::ErrorKind;
 use std::io::Write;
 
@@ -50,7 +52,7 @@ fn next_line<In: BufRead>(input: &mut In, line: &mut Vec<u8>) -> io::Result<Next
 }
 
 // Reads a script to its end, and writes the answer to each line in turn.
-pub fn play<In: BufRead, Out: Write>(
+fn play_lines<In: BufRead, Out: Write>(
     heap: Global,
     input: &mut In,
     output: &mut Out,
@@ -68,4 +70,11 @@ pub fn play<In: BufRead, Out: Write>(
         }
     }
     output.flush()
+}
+
+// Plays the script on standard input, with the answers on standard output.
+pub fn play(rt: &LibcRuntime) -> io::Result<()> {
+    let mut input = BufReader::new(rt.stdin());
+    let mut output = BufWriter::new(rt.stdout());
+    play_lines(rt.alloc(), &mut input, &mut output)
 }
