@@ -3,7 +3,7 @@ use mathlib.Core.Bool.{Bool, cond}
 use mathlib.Core.List.{List, [], _∷_, map}
 use Prim.Native.Nat.{ℕ, _-_}
 use lib.Dec.{leb}
-use lib.ListN.{length, drop}
+use lib.ListN.{drop}
 use Rattle.cabinet.specs.Books.{Books}
 use Rattle.law.specs.Transcript.{Call, Reply, Transcript, Reached, replyOf, afterOf}
 use Rattle.law.specs.Law.{Law}
@@ -26,9 +26,9 @@ heard t [] replies = t
 heard t (c ∷ calls) [] = t
 heard t (c ∷ calls) (r ∷ replies) = heard ((c, r) ∷ t) calls replies
 
--- a place with so much room reserved, so much of it taken, has room for an answer to each call
-abbrev pub hasRoom : {C : Type 0} → ℕ → ℕ → List C → Bool
-hasRoom reserved taken calls = leb (length calls) (reserved - taken)
+-- a place with so much room reserved, so much of it taken, has room for so many answers more
+abbrev pub hasRoom : ℕ → ℕ → ℕ → Bool
+hasRoom reserved taken count = leb count (reserved - taken)
 
 -- what a run adds to its place, and the books that it leaves: without room nothing, and as they were
 abbrev pub repliesGiven : Bool → Books → List Call → List Reply

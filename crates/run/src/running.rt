@@ -1,7 +1,7 @@
 // Calls made one after the other.
 ghost use mathlib.Core.Path.{_≡_};
 ghost use mathlib.Core.List.{map};
-ghost use lib.ListN.{take};
+ghost use lib.ListN.{length, take};
 ghost use Rattle.std.specs.Of.Vec.{vec-items, vec-len, vec-cap};
 ghost use Rattle.std.specs.Results.{isOk};
 ghost use Rattle.cabinet.specs.Books.{booksOf};
@@ -18,6 +18,13 @@ use sheet::Sheet;
 #[derive(Clone, Copy, PartialEq, Eq, Debug)]
 pub struct NoRoom;
 
+// Whether a place has room reserved for so many answers more.
+fn has_room(answers: &Vec<Answer>, count: usize) -> bool
+    ensures { λ r. ⌜ r ≡ hasRoom (vec-cap (now (answers .entry))) (vec-len (now (answers .entry))) count ⌝ }
+{
+    count <= answers.capacity() - answers.len()
+}
+
 // Makes the calls in order and adds each answer behind what the place holds; where the place has too little room reserved, it does nothing. No memory is taken.
 // A transcript that a new cabinet came to goes on by these calls and their answers, and the law over runs holds of it; so runs chain, each with another type of sheet.
 pub fn run<B: Board, S: Sheet>(
@@ -25,15 +32,15 @@ pub fn run<B: Board, S: Sheet>(
     calls: &[Call<S>],
     answers: &mut Vec<Answer>,
 ) -> Result<(), NoRoom>
-    ensures made { λ r. ⌜ isOk r ≡ hasRoom (vec-cap (now (answers .entry))) (vec-len (now (answers .entry))) (now (calls .entry)) ⌝ }
+    ensures made { λ r. ⌜ isOk r ≡ hasRoom (vec-cap (now (answers .entry))) (vec-len (now (answers .entry))) (length (now (calls .entry))) ⌝ }
     ensures kept { λ _. ⌜ take (vec-len (now (answers .entry))) (vec-items (now (answers .exit))) ≡ vec-items (now (answers .entry)) ⌝ }
-    ensures replies { λ _. ⌜ repliesBehind (vec-len (now (answers .entry))) (vec-items (now (answers .exit))) ≡ repliesGiven (hasRoom (vec-cap (now (answers .entry))) (vec-len (now (answers .entry))) (now (calls .entry))) (booksOf meaning (now (cabinet .entry))) (map (asked tariff) (now (calls .entry))) ⌝ }
-    ensures after { λ _. ⌜ booksOf meaning (now (cabinet .exit)) ≡ booksLeft (hasRoom (vec-cap (now (answers .entry))) (vec-len (now (answers .entry))) (now (calls .entry))) (booksOf meaning (now (cabinet .entry))) (map (asked tariff) (now (calls .entry))) ⌝ }
+    ensures replies { λ _. ⌜ repliesBehind (vec-len (now (answers .entry))) (vec-items (now (answers .exit))) ≡ repliesGiven (hasRoom (vec-cap (now (answers .entry))) (vec-len (now (answers .entry))) (length (now (calls .entry)))) (booksOf meaning (now (cabinet .entry))) (map (asked tariff) (now (calls .entry))) ⌝ }
+    ensures after { λ _. ⌜ booksOf meaning (now (cabinet .exit)) ≡ booksLeft (hasRoom (vec-cap (now (answers .entry))) (vec-len (now (answers .entry))) (length (now (calls .entry)))) (booksOf meaning (now (cabinet .entry))) (map (asked tariff) (now (calls .entry))) ⌝ }
     ensures reserved { λ _. ⌜ vec-cap (now (answers .exit)) ≡ vec-cap (now (answers .entry)) ⌝ }
     ensures reached { λ _. ⌜ ReachedRun (booksOf meaning (now (cabinet .entry))) (map (asked tariff) (now (calls .entry))) (repliesBehind (vec-len (now (answers .entry))) (vec-items (now (answers .exit)))) (booksOf meaning (now (cabinet .exit))) ⌝ }
     ensures lawful { λ _. ⌜ LawfulRun (booksOf meaning (now (cabinet .entry))) (map (asked tariff) (now (calls .entry))) (repliesBehind (vec-len (now (answers .entry))) (vec-items (now (answers .exit)))) (booksOf meaning (now (cabinet .exit))) ⌝ }
 {
-    if answers.capacity() - answers.len() < calls.len() {
+    if !has_room(answers, calls.len()) {
         return Err(NoRoom);
     }
     for call in calls {

@@ -2,11 +2,11 @@ use borrow.Author.Needs.{needs}
 use mathlib.Core.Path.{_≡_, refl, sym, ap, _∙_}
 use mathlib.Core.Bool.{true, false}
 use mathlib.Core.List.{map}
-use Prim.Native.Nat.{_-_}
+use Prim.Native.Nat.{_-_, _≤_}
 use native.Mathlib.Omega.{arith}
 use lib.ListN.{length}
 use Rattle.std.proofs.shelf.Lists.{take-all}
-use Rattle.std.proofs.shelf.Tests.{le-leb, lt-leb}
+use Rattle.std.proofs.shelf.Tests.{leb-true}
 use Rattle.std.specs.Of.Vec.{vec-items, vec-len, vec-cap}
 use Rattle.cabinet.specs.Books.{booksOf}
 use Rattle.run.specs.Asked.{asked}
@@ -16,14 +16,14 @@ use Rattle.run.proofs.Reaching.{reached-by, reached-none, lawful-run}
 use Rattle.run.proofs.Turns.{nothing-behind, running-none, running-more, books-are, replies-are}
 use Rattle.run.proofs.running.run.Needs as need
 
-pub returns-then-capacity-len : need.returns-then-capacity-len
-returns-then-capacity-len g c =
+pub returns-then-not-has-room : need.returns-then-not-has-room
+returns-then-not-has-room g c =
     let v = c .args .answers .now in
     let calls = c .args .calls .now in
     let b = booksOf (g .B·Board .meaning) (c .args .cabinet .now) in
     let asks = map (asked (g .S·Sheet .tariff)) calls in
     let long : vec-len v ≡ length (vec-items v) = search needs in
-    let none : hasRoom (vec-cap v) (vec-len v) calls ≡ false = lt-leb (length calls) (vec-cap v - vec-len v) (omega (arith, c .if-capacity-len .taken, c .capacity .ensures, c .len .ensures)) in
+    let none : hasRoom (vec-cap v) (vec-len v) (length calls) ≡ false = sym (c .has-room .ensures) ∙ c .if-not-has-room .taken in
     let nothing = nothing-behind (vec-len v) (vec-items v) long in
     record {
       made = sym none;
@@ -37,8 +37,12 @@ returns-then-capacity-len g c =
 
 pub loop-call-holds : need.loop-call-holds
 loop-call-holds g c =
-    let long : vec-len (c .args .answers .now) ≡ length (vec-items (c .args .answers .now)) = search needs in
-    (running-none (asked (g .S·Sheet .tariff)) (c .args .calls .now) (booksOf (g .B·Board .meaning) (c .args .cabinet .now)) (vec-len (c .args .answers .now)) (vec-items (c .args .answers .now)) long, omega (arith, c .if-capacity-len .left), refl)
+    let v = c .args .answers .now in
+    let calls = c .args .calls .now in
+    let long : vec-len v ≡ length (vec-items v) = search needs in
+    let room = leb-true (length calls) (vec-cap v - vec-len v) (sym (c .has-room .ensures) ∙ c .if-not-has-room .left) in
+    let most : vec-len v ≤ vec-cap v = search needs in
+    (running-none (asked (g .S·Sheet .tariff)) calls (booksOf (g .B·Board .meaning) (c .args .cabinet .now)) (vec-len v) (vec-items v) long, omega (arith, room, most), refl)
 
 pub loop-call-again : need.loop-call-again
 loop-call-again g c =
@@ -61,7 +65,7 @@ returns g c =
     let ask = asked (g .S·Sheet .tariff) in
     let answers = vec-items (c .loop-call .answers) in
     let all = c .loop-call .inv .0 in
-    let room : hasRoom (vec-cap v) (vec-len v) calls ≡ true = le-leb (length calls) (vec-cap v - vec-len v) (omega (arith, c .if-capacity-len .left, c .capacity .ensures, c .len .ensures)) in
+    let room : hasRoom (vec-cap v) (vec-len v) (length calls) ≡ true = sym (c .has-room .ensures) ∙ c .if-not-has-room .left in
     let replies = replies-are ask calls b (vec-len v) (vec-items v) d answers (c .loop-call .call-index) all (c .loop-call-test .left) in
     let books = books-are ask calls b (vec-len v) (vec-items v) d answers (c .loop-call .call-index) all (c .loop-call-test .left) in
     record {
