@@ -4,8 +4,6 @@ mod sheets;
 
 #[cfg(test)]
 mod tests {
-    use crate::sheets::NoPlan;
-    use crate::sheets::NoPlanSheet;
     use crate::sheets::OnePlan;
     use crate::sheets::OnePlanSheet;
     use account::Account;
@@ -15,6 +13,8 @@ mod tests {
     use board::fault::BoardFaultDebug;
     use cabinet::Cabinet;
     use facts::ProfileForm;
+    use house::House;
+    use house::HouseSheet;
     use journal::Journal;
     use journal::JournalBoard;
     use journal::JournalPlan;
@@ -240,7 +240,7 @@ mod tests {
         )
     }
 
-    // The same run of an account goes on with a sheet of another kind, which has no plan for it.
+    // The same run of an account goes on with a sheet of another kind, an empty house sheet, which permits nothing.
     fn finds_no_plan<B: Board>(heap: Global, cabinet: &mut Cabinet<B>) -> Result<(), Fail> {
         answers(
             heap,
@@ -249,7 +249,7 @@ mod tests {
                 Call::Settle {
                     number: 1,
                     end: 11,
-                    sheet: NoPlan,
+                    sheet: House::new(),
                 },
                 Call::Show { number: 1 },
             ],

@@ -1,7 +1,7 @@
-// Two sheets for tests.
+// A sheet for tests.
 ghost use mathlib.Core.Path.{_≡_};
 ghost use Prim.Native.Nat.{min, _≤_, _^_};
-ghost use Rattle.runtests.specs.Sheets.{onePlan, noPlan};
+ghost use Rattle.runtests.specs.Sheets.{onePlan};
 use facts::Facts;
 use sheet::Sheet;
 
@@ -36,25 +36,5 @@ pub impl Sheet for OnePlan as OnePlanSheet {
 
     fn parts(&self, code: u64, _facts: &Facts) -> (u64, u64) {
         if code == 0 { (self.price, 0) } else { (0, 0) }
-    }
-}
-
-// A sheet that permits nothing.
-#[derive(Clone, Copy)]
-pub struct NoPlan;
-
-pub impl Sheet for NoPlan as NoPlanSheet {
-    ghost tariff = { λ _. noPlan };
-
-    fn count(&self) -> u64 {
-        0
-    }
-
-    fn permits(&self, _code: u64, _facts: &Facts) -> bool {
-        false
-    }
-
-    fn parts(&self, _code: u64, _facts: &Facts) -> (u64, u64) {
-        (0, 0)
     }
 }
