@@ -1,4 +1,6 @@
 // A dwelling's account: its state, registers and balance, and how each event moves it.
+#![tactic(auto)]
+
 mod account;
 mod balances;
 mod billing;

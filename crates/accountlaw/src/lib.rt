@@ -1,4 +1,6 @@
 // What holds of accounts whatever happens to them.
+#![tactic(auto)]
+
 ghost use Rattle.accountlaw.specs.Moves.{Readings-join, Settlements-book, Payments-lower};
 ghost use Rattle.accountlaw.specs.Readings.{Registers-add-up};
 ghost use Rattle.accountlaw.specs.Limits.{Steps-keep-limits};

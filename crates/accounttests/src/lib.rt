@@ -1,4 +1,6 @@
 // Tests of accounts: registers that roll over, refusals and their order, balances at their limits.
+#![tactic(auto)]
+
 #[cfg(test)]
 mod tests {
     use account::{Account, AccountFault, AccountForm, Hours, OpeningForm, State};

@@ -1,4 +1,6 @@
 // That reading an answer inverts its writing.
+#![tactic(auto)]
+
 ghost use Rattle.answerlaw.specs.Laws.{Answers-come-back, Texts-tell-apart};
 
 // An answer that is written and read again is the same answer; two answers never have one text.

@@ -1,4 +1,6 @@
 // What the lines of a script are answered, and how an answer is written.
+#![tactic(auto)]
+
 mod answer;
 mod numbers;
 mod shown;

@@ -1,4 +1,6 @@
 // Tests of answers: how they are written, and texts that are no answers.
+#![tactic(auto)]
+
 #[cfg(test)]
 mod tests {
     use account::AccountForm;

@@ -1,4 +1,6 @@
 // What the words of an answer stand for.
+#![tactic(auto)]
+
 mod numbers;
 mod word;
 

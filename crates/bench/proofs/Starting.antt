@@ -2,8 +2,8 @@
 use Rattle.std.proofs.Common.{◌≡◌, ℕ, Bool, [], None, Ok, refl}
 use Rattle.board.specs.Meaning.{BoardMeaning, Row, Lawful, row_at}
 use Rattle.boards.proofs.Emptiness.{new-table, new-journal}
-use Rattle.callforms.specs.declared.board.BoardForm.{BoardForm}
-use Rattle.callforms.specs.declared.board.BoardForm.TheVariants.{Table, Journal}
+use Rattle.callforms.specs.declared.forms.BoardForm.{BoardForm}
+use Rattle.callforms.specs.declared.forms.BoardForm.TheVariants.{Table, Journal}
 use Rattle.cabinet.specs.Books.{books_with}
 use Rattle.law.specs.Transcript.{Reached, start}
 use Rattle.bench.specs.Makings.{form_made}

@@ -4,8 +4,8 @@ use Rattle.facts.specs.Forms.{made}
 use Rattle.board.specs.Meaning.{BoardMeaning, Row}
 use Rattle.boards.specs.declared.making.NotMade.{NotMade}
 use Rattle.boards.specs.Makings.{table_made, journal_made}
-use Rattle.callforms.specs.declared.board.BoardForm.{BoardForm}
-use Rattle.callforms.specs.declared.board.BoardForm.TheVariants.{Table, Journal}
+use Rattle.callforms.specs.declared.forms.BoardForm.{BoardForm}
+use Rattle.callforms.specs.declared.forms.BoardForm.TheVariants.{Table, Journal}
 use Rattle.cabinet.specs.Books.{books_with}
 use Rattle.law.specs.Transcript.{Reached}
 use Rattle.bench.specs.Stands.{Stand, nothing, board, cabinet}

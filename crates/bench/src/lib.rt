@@ -1,4 +1,6 @@
 // What stands at the desk where a script is played: nothing, a board, or a cabinet over a board.
+#![tactic(auto)]
+
 mod asking;
 mod calls;
 mod making;

@@ -1,4 +1,6 @@
 // The lines that make a board, look at its rows, use it as an earlier user did, or call the cabinet over it, with their answers.
+#![tactic(auto)]
+
 mod calling;
 mod making;
 mod rows;

@@ -1,5 +1,7 @@
 // Memory as blocks of one width, one behind the other: what the boards keep their rows in.
 // A board shows at each call that the block lies in its memory; no figure from outside reaches these functions.
+#![tactic(auto)]
+
 ghost use Rattle.std.specs.Prelude.{◌≡◌, ◌+◌, ◌*◌, ◌≤◌, ◌++◌, length, vec_len};
 ghost use Rattle.blocks.specs.Blocks.{bytes_at, with_bytes, block, with_block, Bytes};
 

@@ -1,4 +1,6 @@
 // What every board keeps over any list of stores and clearings, from its making on.
+#![tactic(auto)]
+
 pub mod change;
 pub mod history;
 

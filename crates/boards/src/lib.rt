@@ -1,4 +1,6 @@
 // The two boards as one type.
+#![tactic(auto)]
+
 mod any;
 mod making;
 

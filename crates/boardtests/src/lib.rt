@@ -1,4 +1,6 @@
 // One script of stores, readings and clearings, run on both boards at the edges of their figures.
+#![tactic(auto)]
+
 #[cfg(test)]
 mod tests {
     use board::{Board, BoardFault};

@@ -1,4 +1,6 @@
 // The billing cabinet: the months posted and the accounts on a board, and the calls on them.
+#![tactic(auto)]
+
 mod bill;
 mod cabinet;
 mod fault;

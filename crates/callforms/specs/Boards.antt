@@ -2,8 +2,8 @@
 use Rattle.std.specs.Prelude.{ℕ, ◌-◌, ◌*◌, ◌^◌, min, cond, List, length, Some, None, codes, Option, ◌==◌, slice_index}
 use Rattle.words.specs.Words.{is_word, word_of, rest_of}
 use Rattle.words.specs.Numbers.{numbers_of}
-use Rattle.callforms.specs.declared.board.BoardForm.{BoardForm}
-use Rattle.callforms.specs.declared.board.BoardForm.TheVariants.{Table, Journal}
+use Rattle.callforms.specs.declared.forms.BoardForm.{BoardForm}
+use Rattle.callforms.specs.declared.forms.BoardForm.TheVariants.{Table, Journal}
 
 -- the length of a table's memory where a line gives none, 129 bytes for each number, as far as that fits 64 bits
 abbrev pub table_length : ℕ → ℕ

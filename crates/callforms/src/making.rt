@@ -3,7 +3,7 @@ ghost use Rattle.std.specs.Prelude.{◌≡◌};
 ghost use Rattle.words.specs.Numbers.{numbers_of};
 ghost use Rattle.callforms.specs.Boards.{table_form, journal_form, board_in};
 
-use crate::board::BoardForm;
+use crate::forms::BoardForm;
 use words::{all_numbers, is_word, split_word};
 
 // The bytes that a table board takes for each number.

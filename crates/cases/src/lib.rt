@@ -1,4 +1,6 @@
 // The known cases of the rules: twelve questions, each put to the calls that answer it, and their answers as lines of text.
+#![tactic(auto)]
+
 mod answering;
 mod case;
 mod lines;

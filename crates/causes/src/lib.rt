@@ -1,4 +1,6 @@
 // No refusal without its cause: why a call on a cabinet is refused, told from the calls made before and their answers.
+#![tactic(auto)]
+
 ghost use Rattle.std.specs.Prelude.{◌≡◌};
 ghost use Rattle.cabinet.specs.Books.{books_of};
 ghost use Rattle.law.specs.Transcript.{reply_of, after_of};

@@ -1,4 +1,6 @@
 // The decree sheet: the maximum prices of the low-voltage schedule, as six bases with three meters.
+#![tactic(auto)]
+
 mod meters;
 mod permission;
 mod pricing;

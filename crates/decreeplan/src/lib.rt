@@ -1,4 +1,6 @@
 // The plans of the decree sheet, and the codes that they go by.
+#![tactic(auto)]
+
 mod codes;
 mod numbers;
 mod plan;

@@ -1,4 +1,6 @@
 // Known figures of the decree sheet, each worked out from the rules by hand or by a calculation of its own.
+#![tactic(auto)]
+
 #[cfg(test)]
 mod asked;
 #[cfg(test)]

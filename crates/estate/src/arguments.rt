@@ -1,4 +1,5 @@
 // What the program is asked for.
+use anyhow::bail;
 use std::env;
 
 // How large an estate is run and for how long, from which seed its lots are drawn, and whether its calls are printed as a script.
@@ -46,16 +47,16 @@ pub fn read(rt: &HostRuntime) -> anyhow::Result<Asked> {
             continue;
         }
         let Ok(number) = word.as_str().parse::<u64>() else {
-            return Err(USAGE.into());
+            bail!("{USAGE}");
         };
         if !take_number(&mut asked, place, number) {
-            return Err(USAGE.into());
+            bail!("{USAGE}");
         }
         place = place.saturating_add(1);
     }
     if is_within(&asked) {
         Ok(asked)
     } else {
-        Err(USAGE.into())
+        bail!("{USAGE}")
     }
 }

@@ -1,9 +1,10 @@
 // Runs an estate for ten years and more on a table board and on a journal board side by side, and shows what came of it.
+#![tactic(auto)]
 
 mod arguments;
 mod life;
+mod report;
 mod script;
-mod table;
 
 fn run(rt: &HostRuntime) -> anyhow::Result<()> {
     life::run(rt, arguments::read(rt)?)

@@ -1,5 +1,5 @@
 // The office of an estate: it makes calls on both boards and keeps its own sums.
-use crate::sheets::with_sheet;
+use crate::handing::with_sheet;
 use crate::year::{Year, occupied_in, owing_in};
 use house::House;
 use lineforms::SheetName;

@@ -1,4 +1,6 @@
 // What a period is priced on: a dwelling's profile, its kWh and the sums of the months' price figures, all within their limits.
+#![tactic(auto)]
+
 mod facts;
 mod form;
 mod kind;

@@ -1,4 +1,6 @@
 // Rounding, the price-revision figures of a month, and their sums over a period.
+#![tactic(auto)]
+
 mod month;
 mod rounding;
 mod sums;

@@ -1,4 +1,5 @@
 // Tests of rounding, month figures, their limits and ratings.
+#![tactic(auto)]
 
 #[cfg(test)]
 mod tests {

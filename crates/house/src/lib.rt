@@ -1,4 +1,6 @@
 // The house sheet: up to eight plans of the estate's own, read from bytes.
+#![tactic(auto)]
+
 mod field;
 mod house;
 mod line;

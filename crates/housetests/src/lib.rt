@@ -1,4 +1,6 @@
 // The house sheet: bytes read and refused, lines written and priced, and figures that public papers print.
+#![tactic(auto)]
+
 #[cfg(test)]
 mod bytes;
 #[cfg(test)]

@@ -1,4 +1,6 @@
 // The journal board: entries written one behind the other, the latest for a number deciding.
+#![tactic(auto)]
+
 mod entries;
 pub mod journal;
 

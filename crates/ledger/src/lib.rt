@@ -1,4 +1,6 @@
 // The ledger: accounts as rows of any board, and the calls on one account.
+#![tactic(auto)]
+
 mod fault;
 mod ledger;
 

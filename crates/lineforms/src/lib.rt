@@ -1,4 +1,6 @@
 // What the names and numbers on a script's lines stand for.
+#![tactic(auto)]
+
 mod forms;
 mod name;
 mod verb;

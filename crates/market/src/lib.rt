@@ -1,4 +1,6 @@
 // What an estate is handed from outside, drawn by lot: each month's indices and each year's own price list.
+#![tactic(auto)]
+
 mod indices;
 mod pricelist;
 

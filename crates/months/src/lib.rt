@@ -1,4 +1,6 @@
 // The months posted to a cabinet: their price-revision figures, and the sums over a period.
+#![tactic(auto)]
+
 mod fault;
 mod kept;
 

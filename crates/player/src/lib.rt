@@ -1,4 +1,6 @@
 // Playing a script: it is read line by line, and each line is answered.
+#![tactic(auto)]
+
 ghost use Rattle.std.specs.Prelude.{◌≡◌};
 ghost use Rattle.player.specs.LineEnds.{without_end};
 

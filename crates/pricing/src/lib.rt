@@ -1,4 +1,6 @@
 // The pieces that the prices of several sheets are formed of: kWh, unit rates, yearly charges, charged power.
+#![tactic(auto)]
+
 mod charge;
 mod kwh;
 mod rate;

@@ -1,4 +1,6 @@
 // The protected layer over sheets of no code, of a few, of all but one and of all that a sheet can have.
+#![tactic(auto)]
+
 #[cfg(test)]
 mod flat;
 

@@ -1,4 +1,6 @@
 // The power that a circuit breaker makes available, by network and rated current.
+#![tactic(auto)]
+
 ghost use Rattle.std.specs.Prelude.{◌≡◌};
 ghost use Rattle.common.specs.Numbering.{Numbered};
 ghost use Rattle.rating.specs.Ratings.{network_number, network_at, rating_of, rating_refusal};

@@ -1,4 +1,6 @@
 // What an accepted call leaves at its number is what the next showing of that number tells.
+#![tactic(auto)]
+
 ghost use Rattle.std.specs.Prelude.{◌≡◌};
 ghost use Rattle.cabinet.specs.Books.{books_of};
 ghost use Rattle.law.specs.Transcript.{reply_of, after_of};

@@ -1,5 +1,6 @@
 // What every refusal says: its number, the layer that gives it, and a place.
 // Each kind of fault has a method `refusal` that answers its own.
+#![tactic(auto)]
 
 // The layer that a refusal is counted to. It is a label for the reader and need not be the crate that finds the fault.
 #[derive(Clone, Copy, PartialEq, Eq, Debug)]

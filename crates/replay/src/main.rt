@@ -1,4 +1,6 @@
 // Reads a script on standard input and writes an answer to each of its lines.
+#![tactic(auto)]
+
 use player::play;
 use std::io;
 

@@ -1,6 +1,8 @@
 // The answers to a cabinet's calls as the answers to a script's lines.
-mod figures;
+#![tactic(auto)]
+
+mod numbers;
 mod reply;
 
-pub use figures::{account_form, bill_figures};
+pub use numbers::{account_form, bill_figures};
 pub use reply::answer_of;

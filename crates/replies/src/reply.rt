@@ -4,7 +4,7 @@ ghost use Rattle.answers.specs.Tells.{lines_read};
 ghost use Rattle.run.specs.Asked.{told};
 ghost use Rattle.replies.specs.Replies.{reply_answer};
 
-use crate::figures::{account_form, bill_figures};
+use crate::numbers::{account_form, bill_figures};
 use answers::Answer;
 use run::Answer as Reply;
 

@@ -1,4 +1,6 @@
 // Answers that are read back from their texts.
+#![tactic(auto)]
+
 mod form;
 mod numbered;
 mod reading;

@@ -1,4 +1,6 @@
 // The 128-byte row in which a board keeps an account.
+#![tactic(auto)]
+
 mod decoding;
 mod encoding;
 mod laws;

@@ -1,4 +1,6 @@
 // Tests of rows: a row with every byte damaged in turn.
+#![tactic(auto)]
+
 #[cfg(test)]
 mod tests {
     use account::{Account, AccountFault, AccountForm};

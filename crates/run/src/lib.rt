@@ -1,4 +1,6 @@
 // Calls on a cabinet as data, made one after the other, and what they were answered.
+#![tactic(auto)]
+
 mod answer;
 mod applying;
 mod call;

@@ -1,4 +1,6 @@
 // The life of an account on both boards, with the refusals that its calls can meet.
+#![tactic(auto)]
+
 #[cfg(test)]
 mod sheets;
 

@@ -1,4 +1,6 @@
 // Plays a long random script, whose answers an independent calculation worked out: compare/make-samples writes both.
+#![tactic(auto)]
+
 use player::play;
 use std::io;
 

@@ -1,4 +1,6 @@
 // The lines of a replay script.
+#![tactic(auto)]
+
 mod line;
 mod reading;
 

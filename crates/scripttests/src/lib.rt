@@ -1,4 +1,6 @@
 // Tests of a script's lines: each form is read, and its near misses are unreadable.
+#![tactic(auto)]
+
 #[cfg(test)]
 mod tests {
     use run::Call;

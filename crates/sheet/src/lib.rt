@@ -1,4 +1,6 @@
 // Price sheets: what they answer, and which of their plans is the cheapest.
+#![tactic(auto)]
+
 mod choosing;
 mod plan;
 mod sheet;

@@ -1,4 +1,6 @@
 // Measures one kind of work. `speed WORK BOARD ACCOUNTS ENTRIES MONTHS COUNT` makes a board and, where the work needs one, a cabinet on it, then does the work COUNT times. Standard output gets the work and its check sum, standard error the nanoseconds that it took.
+#![tactic(auto)]
+
 mod accounts;
 mod choosing;
 mod job;

@@ -1,4 +1,6 @@
 // Sums kept beside a cabinet, from what it was asked and what it answered, to hold against what it shows.
+#![tactic(auto)]
+
 mod energy;
 mod showing;
 mod tally;

@@ -1,4 +1,6 @@
 // The tenants of an estate, drawn by lot: who moves in and out, what they use and how they pay, and the calls that follow from it.
+#![tactic(auto)]
+
 mod household;
 mod meters;
 mod payments;

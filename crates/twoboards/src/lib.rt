@@ -1,4 +1,6 @@
 // One estate on two boards side by side: a cabinet on a table board and one on a journal board, which always mean the same.
+#![tactic(auto)]
+
 mod agreement;
 mod pair;
 

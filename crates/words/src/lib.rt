@@ -1,4 +1,6 @@
 // The words and numbers of a line of text.
+#![tactic(auto)]
+
 mod digits;
 mod gather;
 mod hex;

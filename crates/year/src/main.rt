@@ -1,4 +1,6 @@
 // Prices a sample dwelling's year on the decree sheet and prints the bill.
+#![tactic(auto)]
+
 mod bill;
 mod sample;
 

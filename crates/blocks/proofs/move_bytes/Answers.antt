@@ -4,6 +4,6 @@ use Rattle.blocks.proofs.move_bytes.Goals as goal
 
 pub returns : goal.returns
 returns c = record {
-  items = c.copy-within.ensures.items ∙ pasted-bytes c.args.width c.args.from c.args.to _ (vec_items c.args.memory.now) (omega arith);
-  len = c.copy-within.ensures.len;
+  items = c.copy_within.ensures.items ∙ pasted-bytes c.args.width c.args.from c.args.to _ (vec_items c.args.memory.now) (omega arith);
+  len = c.copy_within.ensures.len;
 }

@@ -10,12 +10,12 @@ returns c =
     let body = c.args.body.now in
     let bytes = vec_items c.args.memory.now in
     let start : ℕ = c.args.start in
-    let written : vec_items c.write-bytes-2.new.memory ≡ with_bytes start (length head + length body) (head ++ body) bytes =
-    c.write-bytes-2.ensures.items
-    ∙ ap (with_bytes (start + length head) (length body) body) c.write-bytes.ensures.items
+    let written : vec_items c.write_bytes-2.new.memory ≡ with_bytes start (length head + length body) (head ++ body) bytes =
+    c.write_bytes-2.ensures.items
+    ∙ ap (with_bytes (start + length head) (length body) body) c.write_bytes.ensures.items
     ∙ written_both start head body bytes (omega (arith, c.requires, c.args.memory.now.ok.0)) in
     record {
       items = written;
-      len = c.write-bytes-2.ensures.len ∙ c.write-bytes.ensures.len;
-      bytes = λ p. subst Bytes (sym written) (bytes-with start (length head + length body) (head ++ body) bytes (bytes-append head body (λ k. omega (arith, c.type-inv.head k)) (λ k. omega (arith, c.type-inv.body k))) p);
+      len = c.write_bytes-2.ensures.len ∙ c.write_bytes.ensures.len;
+      bytes = λ p. subst Bytes (sym written) (bytes-with start (length head + length body) (head ++ body) bytes (bytes-append head body (λ k. omega (arith, c.ok.head k)) (λ k. omega (arith, c.ok.body k))) p);
     }

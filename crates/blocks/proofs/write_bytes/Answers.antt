@@ -4,7 +4,7 @@ use Rattle.blocks.proofs.write_bytes.Goals as goal
 
 pub returns : goal.returns
 returns c = record {
-  items = put-bytes c.args.memory.now c.args.start _ c.as-mut-slice.result.now c.copy-from-slice.new.self c.args.bytes.now
-      c.requires c.as-mut-slice.ensures.value c.copy-from-slice.ensures.after (omega arith);
+  items = put-bytes c.args.memory.now c.args.start _ c.as_mut_slice.result.now c.copy_from_slice.new.self c.args.bytes.now
+      c.requires c.as_mut_slice.ensures.value c.copy_from_slice.ensures.after (omega arith);
   len = refl;
 }

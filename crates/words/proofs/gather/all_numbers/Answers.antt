@@ -24,7 +24,7 @@ returns-in-default c =
 
 pub returns-then-not-push : goal.returns-then-not-push
 returns-then-not-push c =
-    let h : is_end c.loop.rest.now ≡ false = sym (c.if-is-empty.ensures ∙ ap (λ (w : List ℕ). eqb (length w) 0) c.split-word.ensures.word) in
+    let h : is_end c.loop.rest.now ≡ false = sym (c.if-is_empty.ensures ∙ ap (λ (w : List ℕ). eqb (length w) 0) c.split_word.ensures.word) in
     let full : c.loop.counter ≡ 26 = grind (arith, nat_tests) in
     let none : 26 - c.loop.counter ≡ 0 = omega arith in
     let e = subst (λ k. numbers_of 26 c.args.line.now ≡ option_map (λ xs. held c.loop.numbers ++ xs) (numbers_of k c.loop.rest.now)) none c.loop.invariant.2 in
@@ -32,8 +32,8 @@ returns-then-not-push c =
 
 pub loop-preserved : goal.loop-preserved
 loop-preserved c =
-    let h : is_end c.loop.rest.now ≡ false = sym (c.if-is-empty.ensures ∙ ap (λ (w : List ℕ). eqb (length w) 0) c.split-word.ensures.word) in
-    let n : number_of (word_of c.loop.rest.now) ≡ Some c.in-Some.value = sym (c.in-Some.ensures ∙ ap number_of c.split-word.ensures.word) in
+    let h : is_end c.loop.rest.now ≡ false = sym (c.if-is_empty.ensures ∙ ap (λ (w : List ℕ). eqb (length w) 0) c.split_word.ensures.word) in
+    let n : number_of (word_of c.loop.rest.now) ≡ Some c.in-Some.value = sym (c.in-Some.ensures ∙ ap number_of c.split_word.ensures.word) in
     let room : c.loop.counter < 26 = grind (arith, nat_tests) in
     let pushed : held c.push.new.self ≡ held c.loop.numbers ++ c.in-Some.value ∷ [] = grind (arith, nat_tests) in
     let less : 26 - c.loop.counter ≡ suc (26 - (c.loop.counter + 1)) = omega arith in
@@ -42,8 +42,8 @@ loop-preserved c =
     let long = length-append (held c.loop.numbers) (c.in-Some.value ∷ []) in (
       omega (arith, ap length pushed, c.loop.invariant.0),
       omega arith,
-      subst (λ (front : List ℕ). numbers_of 26 c.args.line.now ≡ option_map (λ xs. front ++ xs) (numbers_of (26 - (c.loop.counter + 1)) c.split-word.result.1.now)) (sym pushed)
-          (subst (λ (rest : List ℕ). numbers_of 26 c.args.line.now ≡ option_map (λ xs. (held c.loop.numbers ++ c.in-Some.value ∷ []) ++ xs) (numbers_of (26 - (c.loop.counter + 1)) rest)) (sym c.split-word.ensures.rest) m),
+      subst (λ (front : List ℕ). numbers_of 26 c.args.line.now ≡ option_map (λ xs. front ++ xs) (numbers_of (26 - (c.loop.counter + 1)) c.split_word.result.1.now)) (sym pushed)
+          (subst (λ (rest : List ℕ). numbers_of 26 c.args.line.now ≡ option_map (λ xs. (held c.loop.numbers ++ c.in-Some.value ∷ []) ++ xs) (numbers_of (26 - (c.loop.counter + 1)) rest)) (sym c.split_word.ensures.rest) m),
     )
 
 pub returns : goal.returns

@@ -13,4 +13,4 @@ invariant-of-self c =
 
 pub returns : goal.returns
 returns c =
-    ap (map month_figures) c.push-reserved.ensures.items ∙ posted-more (vec_items c.args.self.now.posted) c.args.month
+    ap (map month_figures) c.push_reserved.ensures.items ∙ posted-more (vec_items c.args.self.now.posted) c.args.month

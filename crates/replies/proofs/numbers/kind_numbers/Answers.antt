@@ -4,7 +4,7 @@ use Rattle.std.proofs.lemmas.List.{get_or-map, length-map}
 use Rattle.facts.specs.declared.kind.Kind.TheVariants.{Unused}
 use Rattle.facts.specs.Numbers.{kind_number}
 use Rattle.replies.proofs.SameFigures.{same-figures}
-use Rattle.replies.proofs.figures.kind_numbers.Goals as goal
+use Rattle.replies.proofs.numbers.kind_numbers.Goals as goal
 
 pub loop-i-preserved : goal.loop-i-preserved
 loop-i-preserved c =

@@ -1,7 +1,7 @@
 use Rattle.std.proofs.Common.{◌≡◌, ◌<◌, length, get_or, arith, length-set}
 use Rattle.std.proofs.lemmas.List.Edits.{fill_by_more}
 use Rattle.replies.proofs.SameFigures.{same-figures}
-use Rattle.replies.proofs.figures.widened.Goals as goal
+use Rattle.replies.proofs.numbers.widened.Goals as goal
 
 pub loop-i-preserved : goal.loop-i-preserved
 loop-i-preserved c =

@@ -4,7 +4,7 @@ use Rattle.exports.specs.Crossing.{facts_form}
 use Rattle.exports.specs.Sheets.{name_at, tariff_handed}
 use Rattle.exports.specs.Statuses.{plan_status, plan_place}
 use Rattle.exports.proofs.Chosen.{told}
-use Rattle.exports.proofs.pricing.funderaky_choose.Goals as goal
+use Rattle.exports.proofs.choosing.funderaky_choose.Goals as goal
 
 pub returns : goal.returns
 returns c =
