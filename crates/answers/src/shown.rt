@@ -25,7 +25,7 @@ fn layer_name(layer: Layer) -> &'static str
 
 // `account STATE CLASS ..`
 fn put_account<W: fmt::Write>(f: &mut fmt::Formatter<W>, form: &AccountForm) -> fmt::Result
-    ensures { WritesOnOk write_str_gives f.old result (account_text form.now) f.new }
+    ensures { WritesOnOk W.write_str_gives f.old result (account_text form.now) f.new }
 {
     let profile = form.profile;
     let state = StateName(form.state);
@@ -44,7 +44,7 @@ fn put_account<W: fmt::Write>(f: &mut fmt::Formatter<W>, form: &AccountForm) -> 
 
 // `row HEX`
 fn put_row<W: fmt::Write>(f: &mut fmt::Formatter<W>, bytes: &[u8; 128]) -> fmt::Result
-    ensures { WritesOnOk write_str_gives f.old result (row_text bytes.now) f.new }
+    ensures { WritesOnOk W.write_str_gives f.old result (row_text bytes.now) f.new }
 {
     let row = Hex(bytes);
     write!(f, "row {row}")
@@ -52,7 +52,7 @@ fn put_row<W: fmt::Write>(f: &mut fmt::Formatter<W>, bytes: &[u8; 128]) -> fmt::
 
 // `refused NUMBER LAYER PLACE`
 fn put_refusal<W: fmt::Write>(f: &mut fmt::Formatter<W>, refusal: Refusal) -> fmt::Result
-    ensures { WritesOnOk write_str_gives f.old result (refusal_text refusal) f.new }
+    ensures { WritesOnOk W.write_str_gives f.old result (refusal_text refusal) f.new }
 {
     let number = refusal.number;
     let layer = layer_name(refusal.layer);
@@ -62,7 +62,7 @@ fn put_refusal<W: fmt::Write>(f: &mut fmt::Formatter<W>, refusal: Refusal) -> fm
 
 // A word, and numbers behind it.
 fn put_numbers<W: fmt::Write>(f: &mut fmt::Formatter<W>, word: &str, numbers: &[u64]) -> fmt::Result
-    ensures { WritesOnOk write_str_gives f.old result (word.now ++ spaced_all numbers.now) f.new }
+    ensures { WritesOnOk W.write_str_gives f.old result (word.now ++ spaced_all numbers.now) f.new }
 {
     let numbers = Spaced(numbers);
     write!(f, "{word}{numbers}")

@@ -12,8 +12,8 @@ pub struct NoRoom;
 
 // Makes one change, and answers as the board does.
 pub fn make_change<B: Board>(board: &mut B, change: &Change) -> Result<(), BoardFault>
-    ensures answer { result ≡ change_answer (meaning board.old) change.now }
-    ensures after { meaning board.new ≡ changed (meaning board.old) change.now }
+    ensures answer { result ≡ change_answer (B.meaning board.old) change.now }
+    ensures after { B.meaning board.new ≡ changed (B.meaning board.old) change.now }
 {
     match change {
         Change::Store(number, row) => board.store(*number, row),
@@ -24,9 +24,9 @@ pub fn make_change<B: Board>(board: &mut B, change: &Change) -> Result<(), Board
 // Makes the changes in order and writes each answer into its place.
 fn apply_all<B: Board>(board: &mut B, changes: &[Change], answers: &mut [Result<(), BoardFault>])
     requires { length changes.now ≤ length answers.old }
-    ensures place { answers.new ≡ answers_of (meaning board.old) changes.now ++ drop (length changes.now) answers.old }
-    ensures after { meaning board.new ≡ changed_all (meaning board.old) changes.now }
-    ensures lawful { (c l : ℕ) (t : History) → BoardLaw c l t (meaning board.old) → BoardLaw c l (told t changes.now answers.new) (meaning board.new) }
+    ensures place { answers.new ≡ answers_of (B.meaning board.old) changes.now ++ drop (length changes.now) answers.old }
+    ensures after { B.meaning board.new ≡ changed_all (B.meaning board.old) changes.now }
+    ensures lawful { (c l : ℕ) (t : History) → BoardLaw c l t (B.meaning board.old) → BoardLaw c l (told t changes.now answers.new) (B.meaning board.new) }
 {
     for (i, change) in changes.iter().enumerate() {
         answers[i] = make_change(board, change);
@@ -41,9 +41,9 @@ pub fn apply<B: Board>(
     answers: &mut [Result<(), BoardFault>],
 ) -> Result<(), NoRoom>
     ensures made { is_ok result ≡ nat_le (length changes.now) (length answers.old) }
-    ensures place { answers.new ≡ placed (meaning board.old) changes.now answers.old }
-    ensures after { meaning board.new ≡ applied (meaning board.old) changes.now answers.old }
-    ensures lawful { is_ok result ≡ true → (c l : ℕ) (t : History) → BoardLaw c l t (meaning board.old) → BoardLaw c l (told t changes.now answers.new) (meaning board.new) }
+    ensures place { answers.new ≡ placed (B.meaning board.old) changes.now answers.old }
+    ensures after { B.meaning board.new ≡ applied (B.meaning board.old) changes.now answers.old }
+    ensures lawful { is_ok result ≡ true → (c l : ℕ) (t : History) → BoardLaw c l t (B.meaning board.old) → BoardLaw c l (told t changes.now answers.new) (B.meaning board.new) }
 {
     if answers.len() < changes.len() {
         return Err(NoRoom);

@@ -23,7 +23,7 @@ fn month_answer(s: u64, mx: u64) -> Option<Answer>
 
 // The cheapest plan of a sheet.
 fn plan_answer<S: Sheet>(sheet: &S, form: &FactsForm) -> Option<Answer>
-    ensures { result ≡ plan_answer (tariff sheet.now) form.now }
+    ensures { result ≡ plan_answer (S.tariff sheet.now) form.now }
 {
     let Ok(facts) = Facts::new(form) else {
         return None;

@@ -38,40 +38,40 @@ fn blank() -> Account {
 
 // Opens an account at a number.
 fn open<B: Board>(cabinet: &mut Cabinet<B>, number: u64, form: &OpeningForm) -> Answer
-    ensures answer { told result ≡ reply_of (books_of meaning cabinet.old) (opening number form.now) }
-    ensures after { books_of meaning cabinet.new ≡ after_of (books_of meaning cabinet.old) (opening number form.now) }
+    ensures answer { told result ≡ reply_of (books_of B.meaning cabinet.old) (opening number form.now) }
+    ensures after { books_of B.meaning cabinet.new ≡ after_of (books_of B.meaning cabinet.old) (opening number form.now) }
 {
     Answer::of_deed(cabinet.open(number, form))
 }
 
 // Takes a reading of the account of a number.
 fn read<B: Board>(cabinet: &mut Cabinet<B>, number: u64, indices: &[u64; 12]) -> Answer
-    ensures answer { told result ≡ reply_of (books_of meaning cabinet.old) (reading number indices.now) }
-    ensures after { books_of meaning cabinet.new ≡ after_of (books_of meaning cabinet.old) (reading number indices.now) }
+    ensures answer { told result ≡ reply_of (books_of B.meaning cabinet.old) (reading number indices.now) }
+    ensures after { books_of B.meaning cabinet.new ≡ after_of (books_of B.meaning cabinet.old) (reading number indices.now) }
 {
     Answer::of_deed(cabinet.read(number, indices))
 }
 
 // Takes a payment for the account of a number.
 fn pay<B: Board>(cabinet: &mut Cabinet<B>, number: u64, cents: u64) -> Answer
-    ensures answer { told result ≡ reply_of (books_of meaning cabinet.old) (paying number cents) }
-    ensures after { books_of meaning cabinet.new ≡ after_of (books_of meaning cabinet.old) (paying number cents) }
+    ensures answer { told result ≡ reply_of (books_of B.meaning cabinet.old) (paying number cents) }
+    ensures after { books_of B.meaning cabinet.new ≡ after_of (books_of B.meaning cabinet.old) (paying number cents) }
 {
     Answer::of_deed(cabinet.pay(number, cents))
 }
 
 // Closes the account of a number.
 fn close<B: Board>(cabinet: &mut Cabinet<B>, number: u64) -> Answer
-    ensures answer { told result ≡ reply_of (books_of meaning cabinet.old) (closing number) }
-    ensures after { books_of meaning cabinet.new ≡ after_of (books_of meaning cabinet.old) (closing number) }
+    ensures answer { told result ≡ reply_of (books_of B.meaning cabinet.old) (closing number) }
+    ensures after { books_of B.meaning cabinet.new ≡ after_of (books_of B.meaning cabinet.old) (closing number) }
 {
     Answer::of_deed(cabinet.close(number))
 }
 
 // Shows the account of a number.
 fn show<B: Board>(cabinet: &mut Cabinet<B>, number: u64) -> Answer
-    ensures answer { told result ≡ reply_of (books_of meaning cabinet.old) (showing number) }
-    ensures after { books_of meaning cabinet.new ≡ after_of (books_of meaning cabinet.old) (showing number) }
+    ensures answer { told result ≡ reply_of (books_of B.meaning cabinet.old) (showing number) }
+    ensures after { books_of B.meaning cabinet.new ≡ after_of (books_of B.meaning cabinet.old) (showing number) }
 {
     let mut place = blank();
     match cabinet.show(number, &mut place) {
@@ -83,8 +83,8 @@ fn show<B: Board>(cabinet: &mut Cabinet<B>, number: u64) -> Answer
 
 // Makes one call.
 pub fn apply<B: Board, S: Sheet>(cabinet: &mut Cabinet<B>, call: &Call<S>) -> Answer
-    ensures answer { told result ≡ reply_of (books_of meaning cabinet.old) (asked tariff call.now) }
-    ensures after { books_of meaning cabinet.new ≡ after_of (books_of meaning cabinet.old) (asked tariff call.now) }
+    ensures answer { told result ≡ reply_of (books_of B.meaning cabinet.old) (asked S.tariff call.now) }
+    ensures after { books_of B.meaning cabinet.new ≡ after_of (books_of B.meaning cabinet.old) (asked S.tariff call.now) }
 {
     match call {
         Call::Post { s, mx, nc } => Answer::of_posting(cabinet.post(*s, *mx, *nc)),

@@ -31,11 +31,11 @@ pub fn run<B: Board, S: Sheet>(
 ) -> Result<(), NoRoom>
     ensures made { is_ok result ≡ has_room (vec_capacity answers.old) (vec_len answers.old) (length calls.now) }
     ensures kept { take (vec_len answers.old) answers.new.items ≡ answers.old.items }
-    ensures replies { replies_behind (vec_len answers.old) answers.new.items ≡ replies_given (has_room (vec_capacity answers.old) (vec_len answers.old) (length calls.now)) (books_of meaning cabinet.old) (map (asked tariff) calls.now) }
-    ensures after { books_of meaning cabinet.new ≡ books_left (has_room (vec_capacity answers.old) (vec_len answers.old) (length calls.now)) (books_of meaning cabinet.old) (map (asked tariff) calls.now) }
+    ensures replies { replies_behind (vec_len answers.old) answers.new.items ≡ replies_given (has_room (vec_capacity answers.old) (vec_len answers.old) (length calls.now)) (books_of B.meaning cabinet.old) (map (asked S.tariff) calls.now) }
+    ensures after { books_of B.meaning cabinet.new ≡ books_left (has_room (vec_capacity answers.old) (vec_len answers.old) (length calls.now)) (books_of B.meaning cabinet.old) (map (asked S.tariff) calls.now) }
     ensures reserved { vec_capacity answers.new ≡ vec_capacity answers.old }
-    ensures reached { ReachedRun (books_of meaning cabinet.old) (map (asked tariff) calls.now) (replies_behind (vec_len answers.old) answers.new.items) (books_of meaning cabinet.new) }
-    ensures lawful { LawfulRun (books_of meaning cabinet.old) (map (asked tariff) calls.now) (replies_behind (vec_len answers.old) answers.new.items) (books_of meaning cabinet.new) }
+    ensures reached { ReachedRun (books_of B.meaning cabinet.old) (map (asked S.tariff) calls.now) (replies_behind (vec_len answers.old) answers.new.items) (books_of B.meaning cabinet.new) }
+    ensures lawful { LawfulRun (books_of B.meaning cabinet.old) (map (asked S.tariff) calls.now) (replies_behind (vec_len answers.old) answers.new.items) (books_of B.meaning cabinet.new) }
 {
     if !has_room(answers, calls.len()) {
         return Err(NoRoom);

@@ -17,5 +17,5 @@ returns c =
     record {
       items = written;
       len = c.write_bytes-2.ensures.len ∙ c.write_bytes.ensures.len;
-      bytes = λ p. subst Bytes (sym written) (bytes-with start (length head + length body) (head ++ body) bytes (bytes-append head body (λ k. omega (arith, c.ok.head k)) (λ k. omega (arith, c.ok.body k))) p);
+      bytes = λ p. subst Bytes (sym written) (bytes-with start (length head + length body) (head ++ body) bytes (bytes-append head body (λ k. omega (arith, c.type_inv.head k)) (λ k. omega (arith, c.type_inv.body k))) p);
     }

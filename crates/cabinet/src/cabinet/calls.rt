@@ -19,24 +19,24 @@ use sheet::{Plan, Sheet, choose};
 impl<B: Board> Cabinet<B> {
     // Posts the month that is due from its wage index s, its materials index Mx and its N_C, and answers its number together with its N_E. Refused by 1, 2.
     pub fn post(&mut self, s: u64, mx: u64, nc: u64) -> Result<(u64, u64), CabinetFault>
-        ensures answer { result ≡ posted_answer (books_of meaning self.old) s mx nc }
-        ensures after { books_of meaning self.new ≡ posted_after (books_of meaning self.old) s mx nc }
+        ensures answer { result ≡ posted_answer (books_of B.meaning self.old) s mx nc }
+        ensures after { books_of B.meaning self.new ≡ posted_after (books_of B.meaning self.old) s mx nc }
     {
         Ok(self.months.post(s, mx, nc)?)
     }
 
     // Opens an account at a vacant number. Refused by 3, 17, 4, 5, 6.
     pub fn open(&mut self, number: u64, form: &OpeningForm) -> Result<(), CabinetFault>
-        ensures answer { result ≡ done_answer (books_of meaning self.old) number (Open form.now) }
-        ensures after { books_of meaning self.new ≡ done_after (books_of meaning self.old) number (Open form.now) }
+        ensures answer { result ≡ done_answer (books_of B.meaning self.old) number (Open form.now) }
+        ensures after { books_of B.meaning self.new ≡ done_after (books_of B.meaning self.old) number (Open form.now) }
     {
         Ok(self.ledger.open(number, form)?)
     }
 
     // Takes a reading of the twelve registers. Refused by 3, 17, 7, 8, 9.
     pub fn read(&mut self, number: u64, indices: &[u64; 12]) -> Result<(), CabinetFault>
-        ensures answer { result ≡ done_answer (books_of meaning self.old) number (Read indices.now) }
-        ensures after { books_of meaning self.new ≡ done_after (books_of meaning self.old) number (Read indices.now) }
+        ensures answer { result ≡ done_answer (books_of B.meaning self.old) number (Read indices.now) }
+        ensures after { books_of B.meaning self.new ≡ done_after (books_of B.meaning self.old) number (Read indices.now) }
     {
         Ok(self.ledger.read(number, indices)?)
     }
@@ -51,7 +51,7 @@ impl<B: Board> Cabinet<B> {
         sheet: &S,
     ) -> Result<Plan, CabinetFault>
         requires { months_to end (tenancy_of account.now) ≡ Ok months }
-        ensures { result ≡ priced (posted_of self.now.months) number end (tariff sheet.now) (tenancy_of account.now, months) }
+        ensures { result ≡ priced (posted_of self.now.months) number end (S.tariff sheet.now) (tenancy_of account.now, months) }
     {
         let Some((ne, nc)) = self.months.sums(account.next as u64, months) else {
             return Err(CabinetFault::NotPosted(number));
@@ -72,8 +72,8 @@ impl<B: Board> Cabinet<B> {
         months: u8,
         plan: Plan,
     ) -> Result<Bill, CabinetFault>
-        ensures answer { result ≡ bill_answer (books_of meaning self.old) number (billed number end (tenancy_of account, months) plan) }
-        ensures after { books_of meaning self.new ≡ bill_after (books_of meaning self.old) number (billed number end (tenancy_of account, months) plan) }
+        ensures answer { result ≡ bill_answer (books_of B.meaning self.old) number (billed number end (tenancy_of account, months) plan) }
+        ensures after { books_of B.meaning self.new ≡ bill_after (books_of B.meaning self.old) number (billed number end (tenancy_of account, months) plan) }
     {
         self.ledger.book(number, account, end, plan.cents)?;
         Ok(Bill::new(&account, months, plan))
@@ -86,8 +86,8 @@ impl<B: Board> Cabinet<B> {
         end: u64,
         sheet: &S,
     ) -> Result<Bill, CabinetFault>
-        ensures answer { result ≡ settle_answer (books_of meaning self.old) number end (tariff sheet.now) }
-        ensures after { books_of meaning self.new ≡ settle_after (books_of meaning self.old) number end (tariff sheet.now) }
+        ensures answer { result ≡ settle_answer (books_of B.meaning self.old) number end (S.tariff sheet.now) }
+        ensures after { books_of B.meaning self.new ≡ settle_after (books_of B.meaning self.old) number end (S.tariff sheet.now) }
     {
         let (account, months) = self.ledger.due(number, end)?;
         let plan = self.plan_for(number, end, &account, months, sheet)?;
@@ -96,25 +96,25 @@ impl<B: Board> Cabinet<B> {
 
     // Takes a payment. Refused by 3, 17, 7, 14, 15.
     pub fn pay(&mut self, number: u64, cents: u64) -> Result<(), CabinetFault>
-        ensures answer { result ≡ done_answer (books_of meaning self.old) number (Pay cents) }
-        ensures after { books_of meaning self.new ≡ done_after (books_of meaning self.old) number (Pay cents) }
+        ensures answer { result ≡ done_answer (books_of B.meaning self.old) number (Pay cents) }
+        ensures after { books_of B.meaning self.new ≡ done_after (books_of B.meaning self.old) number (Pay cents) }
     {
         Ok(self.ledger.pay(number, cents)?)
     }
 
     // Closes an account that owes nothing and has nothing to settle. Refused by 3, 17, 7, 16.
     pub fn close(&mut self, number: u64) -> Result<(), CabinetFault>
-        ensures answer { result ≡ done_answer (books_of meaning self.old) number Close }
-        ensures after { books_of meaning self.new ≡ done_after (books_of meaning self.old) number Close }
+        ensures answer { result ≡ done_answer (books_of B.meaning self.old) number Close }
+        ensures after { books_of B.meaning self.new ≡ done_after (books_of B.meaning self.old) number Close }
     {
         Ok(self.ledger.close(number)?)
     }
 
     // Copies the account of a number into the place and says yes, or says no where it is vacant and leaves the place. Refused by 3, 17.
     pub fn show(&mut self, number: u64, place: &mut Account) -> Result<bool, CabinetFault>
-        ensures answer { result ≡ shown_answer (books_of meaning self.old) number }
-        ensures place { tenancy_of place.new ≡ show_place (load_answer (books_of meaning self.old).board number) (tenancy_of place.old) }
-        ensures after { books_of meaning self.new ≡ shown_after (books_of meaning self.old) number }
+        ensures answer { result ≡ shown_answer (books_of B.meaning self.old) number }
+        ensures place { tenancy_of place.new ≡ show_place (load_answer (books_of B.meaning self.old).board number) (tenancy_of place.old) }
+        ensures after { books_of B.meaning self.new ≡ shown_after (books_of B.meaning self.old) number }
     {
         Ok(self.ledger.show(number, place)?)
     }
@@ -122,9 +122,9 @@ impl<B: Board> Cabinet<B> {
     // Copies the row of a number into the place as the board holds it and says yes, or says no where none stands and leaves the place. Refused by 3.
     // It moves nothing, so it is none of the calls that a run is made of.
     pub fn row(&mut self, number: u64, place: &mut [u8; 128]) -> Result<bool, CabinetFault>
-        ensures answer { result ≡ row_answer (books_of meaning self.old) number }
-        ensures place { place.new ≡ read_place (books_of meaning self.old).board number place.old }
-        ensures after { books_of meaning self.new ≡ row_after (books_of meaning self.old) number }
+        ensures answer { result ≡ row_answer (books_of B.meaning self.old) number }
+        ensures place { place.new ≡ read_place (books_of B.meaning self.old).board number place.old }
+        ensures after { books_of B.meaning self.new ≡ row_after (books_of B.meaning self.old) number }
     {
         Ok(self.ledger.row(number, place)?)
     }

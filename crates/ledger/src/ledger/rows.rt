@@ -15,8 +15,8 @@ use row::{decode, encode};
 impl<B: Board> Ledger<B> {
     // The account of a number, if it has one.
     pub(super) fn load(&mut self, number: u64) -> Result<Option<Account>, LedgerFault>
-        ensures answer { made (option_map tenancy_of) result ≡ load_answer (meaning self.old.board) number }
-        ensures after { meaning self.new.board ≡ read_after (meaning self.old.board) number }
+        ensures answer { made (option_map tenancy_of) result ≡ load_answer (B.meaning self.old.board) number }
+        ensures after { B.meaning self.new.board ≡ read_after (B.meaning self.old.board) number }
     {
         let mut row = [0u8; 128];
         if !self.board.read(number, &mut row)? {
@@ -30,8 +30,8 @@ impl<B: Board> Ledger<B> {
 
     // Keeps an account as the row of a number, or clears the row where there is none.
     pub(super) fn keep(&mut self, number: u64, account: &Option<Account>) -> Result<(), LedgerFault>
-        ensures answer { result ≡ keep_answer (meaning self.old.board) number (option_map tenancy_of account.now) }
-        ensures after { meaning self.new.board ≡ keep_after (meaning self.old.board) number (option_map tenancy_of account.now) }
+        ensures answer { result ≡ keep_answer (B.meaning self.old.board) number (option_map tenancy_of account.now) }
+        ensures after { B.meaning self.new.board ≡ keep_after (B.meaning self.old.board) number (option_map tenancy_of account.now) }
     {
         match account {
             Some(account) => self.board.store(number, &encode(account))?,

@@ -14,9 +14,9 @@ use board::Board;
 impl<B: Board> Ledger<B> {
     // The account of a number with the months of its period up to an end month. Refused by 3, 17, 7, 10, 11.
     pub fn due(&mut self, number: u64, end: u64) -> Result<(Account, u8), LedgerFault>
-        ensures answer { made due_of result ≡ due_answer (meaning self.old.board) number end }
+        ensures answer { made due_of result ≡ due_answer (B.meaning self.old.board) number end }
         ensures months { IfOk result (λ d. months_to end (tenancy_of d.0) ≡ Ok d.1) }
-        ensures after { meaning self.new.board ≡ read_after (meaning self.old.board) number }
+        ensures after { B.meaning self.new.board ≡ read_after (B.meaning self.old.board) number }
     {
         let Some(account) = self.load(number)? else {
             return Err(LedgerFault::Account(number, AccountFault::Vacant));
@@ -35,8 +35,8 @@ impl<B: Board> Ledger<B> {
         end: u64,
         cents: u64,
     ) -> Result<(), LedgerFault>
-        ensures answer { result ≡ book_answer (meaning self.old.board) number end cents (tenancy_of account) }
-        ensures after { meaning self.new.board ≡ book_after (meaning self.old.board) number end cents (tenancy_of account) }
+        ensures answer { result ≡ book_answer (B.meaning self.old.board) number end cents (tenancy_of account) }
+        ensures after { B.meaning self.new.board ≡ book_after (B.meaning self.old.board) number end cents (tenancy_of account) }
     {
         match account.settle(end, cents) {
             Ok(settled) => self.keep(number, &Some(settled)),

@@ -7,8 +7,8 @@ use Rattle.common.proofs.Counted.{all_to-more, all_to-not, all_to-at}
 use Rattle.account.specs.Registers.{kind_of, figure_fits, register_fits}
 use Rattle.account.proofs.registers.figures_from.Goals as goal
 
-pub returns-then-not-figure-fits : goal.returns-then-not-figure-fits
-returns-then-not-figure-fits c =
+pub returns-then-not-figure_fits : goal.returns-then-not-figure_fits
+returns-then-not-figure_fits c =
     let f : register_fits c.args.figure c.args.kinds.now c.args.numbers.now c.loop-i.i ≡ false = grind (arith, nat_tests) in
     let n = all_to-not (register_fits c.args.figure c.args.kinds.now c.args.numbers.now) 12 c.loop-i.i (omega arith) f in
     record { value = rw n; limits = tt }

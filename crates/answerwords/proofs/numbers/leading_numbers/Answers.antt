@@ -14,13 +14,13 @@ loop-i-init g c =
     let all : g.row.N ≡ g.row.N - 0 = omega arith in
     (length-replicate g.row.N 0, subst (λ k. front_of g.row.N text ≡ option_map (behind []) (front_of k text)) all (at_first (front_of g.row.N text)))
 
-pub returns-in-default : goal.returns-in-default
-returns-in-default g c =
+pub returns-in_default : goal.returns-in_default
+returns-in_default g c =
     let text = c.args.text.now in
     let ns = take c.loop-i.i c.loop-i.numbers in
     let less : g.row.N - c.loop-i.i ≡ suc (g.row.N - (c.loop-i.i + 1)) = omega arith in
     let e = subst (λ k. front_of g.row.N text ≡ option_map (behind ns) (front_of k c.loop-i.rest.now)) less c.loop-i.invariant.1 in
-    let n : number_of (word_of c.loop-i.rest.now) ≡ None = sym (c.in-default.ensures ∙ ap number_of c.split-word.ensures.word) in
+    let n : number_of (word_of c.loop-i.rest.now) ≡ None = sym (c.in_default.ensures ∙ ap number_of c.split_word.ensures.word) in
     sym (at_none ns c.loop-i.rest.now (front_of g.row.N text) (g.row.N - (c.loop-i.i + 1)) e n)
 
 pub loop-i-preserved : goal.loop-i-preserved
@@ -31,13 +31,13 @@ loop-i-preserved g c =
     let x = c.in-Some.value in
     let less : g.row.N - i ≡ suc (g.row.N - (i + 1)) = omega arith in
     let e = subst (λ k. front_of g.row.N text ≡ option_map (behind (take i numbers)) (front_of k c.loop-i.rest.now)) less c.loop-i.invariant.1 in
-    let n : number_of (word_of c.loop-i.rest.now) ≡ Some x = sym (c.in-Some.ensures ∙ ap number_of c.split-word.ensures.word) in
+    let n : number_of (word_of c.loop-i.rest.now) ≡ Some x = sym (c.in-Some.ensures ∙ ap number_of c.split_word.ensures.word) in
     let m = at_more (take i numbers) c.loop-i.rest.now (front_of g.row.N text) (g.row.N - (i + 1)) x e n in
     let inside : i < length numbers = omega arith in
     let t : take (i + 1) (set numbers i x) ≡ take i numbers ++ x ∷ [] = take_more_set numbers i x inside in (
       length-set numbers i x ∙ c.loop-i.invariant.0,
-      subst (λ (ns : List ℕ). front_of g.row.N text ≡ option_map (behind ns) (front_of (g.row.N - (i + 1)) c.split-word.result.1.now)) (sym t)
-          (subst (λ (rest : List ℕ). front_of g.row.N text ≡ option_map (behind (take i numbers ++ x ∷ [])) (front_of (g.row.N - (i + 1)) rest)) (sym c.split-word.ensures.rest) m),
+      subst (λ (ns : List ℕ). front_of g.row.N text ≡ option_map (behind ns) (front_of (g.row.N - (i + 1)) c.split_word.result.1.now)) (sym t)
+          (subst (λ (rest : List ℕ). front_of g.row.N text ≡ option_map (behind (take i numbers ++ x ∷ [])) (front_of (g.row.N - (i + 1)) rest)) (sym c.split_word.ensures.rest) m),
     )
 
 pub returns : goal.returns

@@ -18,12 +18,12 @@ loop-i-preserved c =
     let i = c.loop-i.i in
     let inside : i < length bytes = omega arith in
     let filled = fill_by_more (byte_at word) bytes i 0 inside c.loop-i.invariant.1 in (
-      length-set bytes i c.hex-byte.result ∙ c.loop-i.invariant.0,
-      subst (λ (x : ℕ). (k : ℕ) → k < i + 1 → get_or (set bytes i x) k 0 ≡ byte_at word k) (sym c.hex-byte.ensures) filled,
+      length-set bytes i c.hex_byte.result ∙ c.loop-i.invariant.0,
+      subst (λ (x : ℕ). (k : ℕ) → k < i + 1 → get_or (set bytes i x) k 0 ≡ byte_at word k) (sym c.hex_byte.ensures) filled,
     )
 
 pub returns : goal.returns
 returns c =
     let word = c.args.word.now in
     let filled = fill_by_all (byte_at word) c.loop-i.bytes 128 0 c.loop-i.invariant.0 (λ k h. c.loop-i.invariant.1 k (omega arith)) in
-    whole word c.loop-i.bytes (sym c.if-not-is-hex.ensures) c.if-word-ne256.false filled
+    whole word c.loop-i.bytes (sym c.if-not-is_hex.ensures) c.if-word-ne256.false filled

@@ -7,9 +7,9 @@ loop-i-init g c = applying-none (g.B.Board.meaning c.args.board.now) c.args.chan
 
 pub loop-i-preserved : goal.loop-i-preserved
 loop-i-preserved g c =
-    applying-more (g.B.Board.meaning c.args.board.now) (g.B.Board.meaning c.loop-i.board) (g.B.Board.meaning c.make-change.new.board)
-    c.args.changes.now c.args.answers.now c.loop-i.answers c.loop-i.i _ c.make-change.result
-    c.loop-i.invariant c.loop-i-test.true c.requires c.make-change.ensures.answer c.make-change.ensures.after
+    applying-more (g.B.Board.meaning c.args.board.now) (g.B.Board.meaning c.loop-i.board) (g.B.Board.meaning c.make_change.new.board)
+    c.args.changes.now c.args.answers.now c.loop-i.answers c.loop-i.i _ c.make_change.result
+    c.loop-i.invariant c.loop-i-test.true c.requires c.make_change.ensures.answer c.make_change.ensures.after
 
 pub returns : goal.returns
 returns g c =

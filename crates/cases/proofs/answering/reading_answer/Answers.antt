@@ -2,9 +2,9 @@ use Rattle.std.proofs.Common.{rules}
 use Rattle.cases.specs.Answering.{reading_answer}
 use Rattle.cases.proofs.answering.reading_answer.Goals as goal
 
-pub returns-in-default : goal.returns-in-default
+pub returns-in_default : goal.returns-in_default
 unfolding reading_answer
-returns-in-default c = search rules
+returns-in_default c = search rules
 
 pub returns-in-Ok-read : goal.returns-in-Ok-read
 unfolding reading_answer

@@ -5,6 +5,6 @@ use Rattle.cases.proofs.lines.twelve_lines.Goals as goal
 
 pub returns : goal.returns
 returns c = record {
-  lines = subst (λ (bytes : List ℕ). IfOk c.lines.result (λ text. string_bytes text ≡ bytes)) (ap lines_of c.twelve-cases.ensures) c.lines.ensures;
+  lines = subst (λ (bytes : List ℕ). IfOk c.lines.result (λ text. string_bytes text ≡ bytes)) (ap lines_of c.twelve_cases.ensures) c.lines.ensures;
   known = all_known;
 }

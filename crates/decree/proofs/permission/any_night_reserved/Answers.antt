@@ -6,9 +6,9 @@ use Rattle.facts.specs.declared.kind.Kind.TheVariants.{Unused}
 use Rattle.decree.specs.Permission.{is_night_reserved, has_night_reserved}
 use Rattle.decree.proofs.permission.any_night_reserved.Goals as goal
 
-pub returns-then-is-night-reserved : goal.returns-then-is-night-reserved
+pub returns-then-is_night_reserved : goal.returns-then-is_night_reserved
 unfolding has_night_reserved
-returns-then-is-night-reserved c =
+returns-then-is_night_reserved c =
     let t : is_night_reserved (get_or c.args.kinds.now c.loop-kind.kind-index Unused) ≡ true = grind (arith, nat_tests) in
     sym (any_to-from (λ i. is_night_reserved (get_or c.args.kinds.now i Unused)) 6 c.loop-kind.kind-index (omega arith) t)
 

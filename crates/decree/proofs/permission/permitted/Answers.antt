@@ -22,15 +22,15 @@ asked b code f rest i p r h e q s =
     let w : get_or (places_of code) i Main ≡ p = get_or-places_of code i h ∙ ap (λ n. digit_place (n % 3)) (sym e) ∙ sym q in
     ap (λ x. may_stand f.profile.marks b x (get_or f.profile.kinds i Unused) (get_or f.day i 0)) w ∙ sym s
 
-pub returns-then-not-may-stand : goal.returns-then-not-may-stand
-returns-then-not-may-stand c =
-    let s = asked c.args.base c.args.code c.args.facts.now c.loop-i.rest c.loop-i.i c.first-place.result c.may-stand.result (omega arith) c.loop-i.invariant.1 c.first-place.ensures c.may-stand.ensures in
-    sym (permitted-not c.args.base (places_of c.args.code) (usage_of c.args.facts.now) c.loop-i.i (omega arith) (s ∙ c.if-not-may-stand.true))
+pub returns-then-not-may_stand : goal.returns-then-not-may_stand
+returns-then-not-may_stand c =
+    let s = asked c.args.base c.args.code c.args.facts.now c.loop-i.rest c.loop-i.i c.first-place.result c.may_stand.result (omega arith) c.loop-i.invariant.1 c.first-place.ensures c.may_stand.ensures in
+    sym (permitted-not c.args.base (places_of c.args.code) (usage_of c.args.facts.now) c.loop-i.i (omega arith) (s ∙ c.if-not-may_stand.true))
 
 pub loop-i-preserved : goal.loop-i-preserved
 loop-i-preserved c =
-    let s = asked c.args.base c.args.code c.args.facts.now c.loop-i.rest c.loop-i.i c.first-place.result c.may-stand.result (omega arith) c.loop-i.invariant.1 c.first-place.ensures c.may-stand.ensures in
-    let t = s ∙ c.if-not-may-stand.false in
+    let s = asked c.args.base c.args.code c.args.facts.now c.loop-i.rest c.loop-i.i c.first-place.result c.may_stand.result (omega arith) c.loop-i.invariant.1 c.first-place.ensures c.may_stand.ensures in
+    let t = s ∙ c.if-not-may_stand.false in
     let m = all_to-more (stands_at c.args.base (places_of c.args.code) (usage_of c.args.facts.now)) c.loop-i.i in (
       grind arith,
       ap (λ r. r / 3) c.loop-i.invariant.1 ∙ sym (rest_more c.args.code c.loop-i.i),

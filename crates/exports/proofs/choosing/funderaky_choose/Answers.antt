@@ -8,8 +8,8 @@ use Rattle.exports.proofs.choosing.funderaky_choose.Goals as goal
 
 pub returns : goal.returns
 returns c =
-    let s = c.hand-back.ensures.status ∙ ap plan_status c.cheapest.ensures in
-    let p = c.hand-back.ensures.place ∙ ap (λ found. plan_place found c.args.plan.now) c.cheapest.ensures in
+    let s = c.hand_back.ensures.status ∙ ap plan_status c.cheapest.ensures in
+    let p = c.hand_back.ensures.place ∙ ap (λ found. plan_place found c.args.plan.now) c.cheapest.ensures in
     record {
       status = s;
       place = p;

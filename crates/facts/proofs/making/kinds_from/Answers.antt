@@ -8,8 +8,8 @@ use Rattle.facts.specs.declared.kind.Kind.TheVariants.{Unused}
 use Rattle.facts.specs.Forms.{kind_known, kind_read}
 use Rattle.facts.proofs.making.kinds_from.Goals as goal
 
-pub returns-in-default : goal.returns-in-default
-returns-in-default c =
+pub returns-in_default : goal.returns-in_default
+returns-in_default c =
     let f : kind_known c.args.numbers.now c.loop-i.i ≡ false = grind (arith, nat_tests) in
     rw (all_to-not (kind_known c.args.numbers.now) 6 c.loop-i.i (omega arith) f)
 

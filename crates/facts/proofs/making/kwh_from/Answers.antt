@@ -8,8 +8,8 @@ use Rattle.facts.specs.Limits.{KwhLimits}
 use Rattle.facts.specs.Forms.{circuit_fits}
 use Rattle.facts.proofs.making.kwh_from.Goals as goal
 
-pub returns-then-not-kwh-fit : goal.returns-then-not-kwh-fit
-returns-then-not-kwh-fit c =
+pub returns-then-not-kwh_fit : goal.returns-then-not-kwh_fit
+returns-then-not-kwh_fit c =
     let f : circuit_fits c.args.kinds.now c.args.numbers.now c.loop-i.i ≡ false = grind (arith, nat_tests) in
     let n = all_to-not (circuit_fits c.args.kinds.now c.args.numbers.now) 6 c.loop-i.i (omega arith) f in
     record { value = rw n; limits = tt }

@@ -6,9 +6,9 @@ use Rattle.lineforms.specs.declared.verb.Verb.TheVariants.{Rating}
 use Rattle.lineforms.specs.Verbs.{verb_name, verb_among}
 use Rattle.lineforms.proofs.verb.verb_among.Goals as goal
 
-pub returns-then-is-word : goal.returns-then-is-word
+pub returns-then-is_word : goal.returns-then-is_word
 unfolding verb_among
-returns-then-is-word c =
+returns-then-is_word c =
     let verbs = c.args.verbs.now in
     let word = c.args.word.now in
     let i = c.loop-verb.verb-index in

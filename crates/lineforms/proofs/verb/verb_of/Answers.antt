@@ -5,6 +5,6 @@ use Rattle.lineforms.proofs.verb.verb_of.Goals as goal
 
 pub returns : goal.returns
 returns c = record {
-  value = c.verb-among.ensures;
-  says = subst (Says c.args.word.now) (sym c.verb-among.ensures) (says c.args.word.now);
+  value = c.verb_among.ensures;
+  says = subst (Says c.args.word.now) (sym c.verb_among.ensures) (says c.args.word.now);
 }

@@ -4,6 +4,6 @@ use Rattle.row.proofs.decoding.form_at.Goals as goal
 
 pub returns : goal.returns
 returns c =
-    let f : SFits w64 c.balance-at.result = search rules in
-    let t = to_z-of_z w64 c.balance-at.result f in
+    let f : SFits w64 c.balance_at.result = search rules in
+    let t = to_z-of_z w64 c.balance_at.result f in
     cc

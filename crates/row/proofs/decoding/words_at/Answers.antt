@@ -8,7 +8,7 @@ pub loop-i-preserved : goal.loop-i-preserved
 loop-i-preserved c =
     let h : c.loop-i.i < length c.loop-i.words = omega arith in (
       simp length-set c.loop-i.invariant.0,
-      simp c.from-be-bytes.ensures (fill_by_more (λ k. at32 c.args.row.now (c.args.from + 4 * k)) c.loop-i.words c.loop-i.i 0 h c.loop-i.invariant.1),
+      simp c.from_be_bytes.ensures (fill_by_more (λ k. at32 c.args.row.now (c.args.from + 4 * k)) c.loop-i.words c.loop-i.i 0 h c.loop-i.invariant.1),
     )
 
 pub returns : goal.returns

@@ -8,4 +8,4 @@ unfolding row_of
 returns c =
     let f : SFits w64 c.args.account.now.balance = search rules in
     let t = to_z-of_z w64 c.args.account.now.balance f in
-    simp (c.finish.ensures, c.put-all-2.ensures.text, c.put-balance.ensures.text, c.put-words-2.ensures.text, c.put-words.ensures.text, c.put-all.ensures.text, c.put-kinds.ensures.text, c.put-head.ensures.text, c.new-row.ensures.text, c.to-be-bytes.ensures, append_assoc, t)
+    simp (c.finish.ensures, c.put_all-2.ensures.text, c.put_balance.ensures.text, c.put_words-2.ensures.text, c.put_words.ensures.text, c.put_all.ensures.text, c.put_kinds.ensures.text, c.put_head.ensures.text, c.new-row.ensures.text, c.to_be_bytes.ensures, append_assoc, t)

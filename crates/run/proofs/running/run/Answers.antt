@@ -9,14 +9,14 @@ use Rattle.run.proofs.Reaching.{reached-by, reached-none, lawful-run}
 use Rattle.run.proofs.Turns.{nothing-behind, running_none, running_more, books-are, replies-are}
 use Rattle.run.proofs.running.run.Goals as goal
 
-pub returns-then-not-has-room : goal.returns-then-not-has-room
-returns-then-not-has-room g c =
+pub returns-then-not-has_room : goal.returns-then-not-has_room
+returns-then-not-has_room g c =
     let v = c.args.answers.now in
     let calls = c.args.calls.now in
     let b = books_of g.B.Board.meaning c.args.cabinet.now in
     let asks = map (asked g.S.Sheet.tariff) calls in
     let long : vec_len v ≡ length (vec_items v) = search rules in
-    let none : has_room (vec_capacity v) (vec_len v) (length calls) ≡ false = sym c.has-room.ensures ∙ c.if-not-has-room.true in
+    let none : has_room (vec_capacity v) (vec_len v) (length calls) ≡ false = sym c.has_room.ensures ∙ c.if-not-has_room.true in
     let nothing = nothing-behind (vec_len v) (vec_items v) long in
     record {
       made = sym none;
@@ -33,7 +33,7 @@ loop-call-init g c =
     let v = c.args.answers.now in
     let calls = c.args.calls.now in
     let long : vec_len v ≡ length (vec_items v) = search rules in
-    let room = leb-true (length calls) (vec_capacity v - vec_len v) (sym c.has-room.ensures ∙ c.if-not-has-room.false) in
+    let room = leb-true (length calls) (vec_capacity v - vec_len v) (sym c.has_room.ensures ∙ c.if-not-has_room.false) in
     let most : vec_len v ≤ vec_capacity v = search rules in
     (running_none (asked g.S.Sheet.tariff) calls (books_of g.B.Board.meaning c.args.cabinet.now) (vec_len v) (vec_items v) long, omega (arith, room, most), refl)
 
@@ -42,10 +42,10 @@ loop-call-preserved g c =
     let m = g.B.Board.meaning in
     let old = c.args.answers.now in (
       running_more (asked g.S.Sheet.tariff) c.args.calls.now (books_of m c.args.cabinet.now) (vec_len old) (vec_items old)
-          (books_of m c.loop-call.cabinet) (books_of m c.apply.new.cabinet) (vec_items c.loop-call.answers) (vec_items c.push-reserved.new.self) c.loop-call.call-index c.call-item.result c.apply.result
-          c.loop-call.invariant.0 c.loop-call-test.true c.call-item.is c.push-reserved.ensures.items c.apply.ensures.answer c.apply.ensures.after,
-      omega (arith, c.loop-call.invariant.1, c.loop-call-test.true, c.push-reserved.ensures.len, c.push-reserved.ensures.capacity),
-      c.push-reserved.ensures.capacity ∙ c.loop-call.invariant.2,
+          (books_of m c.loop-call.cabinet) (books_of m c.apply.new.cabinet) (vec_items c.loop-call.answers) (vec_items c.push_reserved.new.self) c.loop-call.call-index c.call-item.result c.apply.result
+          c.loop-call.invariant.0 c.loop-call-test.true c.call-item.is c.push_reserved.ensures.items c.apply.ensures.answer c.apply.ensures.after,
+      omega (arith, c.loop-call.invariant.1, c.loop-call-test.true, c.push_reserved.ensures.len, c.push_reserved.ensures.capacity),
+      c.push_reserved.ensures.capacity ∙ c.loop-call.invariant.2,
     )
 
 pub returns : goal.returns
@@ -58,7 +58,7 @@ returns g c =
     let ask = asked g.S.Sheet.tariff in
     let answers = vec_items c.loop-call.answers in
     let all = c.loop-call.invariant.0 in
-    let room : has_room (vec_capacity v) (vec_len v) (length calls) ≡ true = sym c.has-room.ensures ∙ c.if-not-has-room.false in
+    let room : has_room (vec_capacity v) (vec_len v) (length calls) ≡ true = sym c.has_room.ensures ∙ c.if-not-has_room.false in
     let replies = replies-are ask calls b (vec_len v) (vec_items v) d answers c.loop-call.call-index all c.loop-call-test.false in
     let books = books-are ask calls b (vec_len v) (vec_items v) d answers c.loop-call.call-index all c.loop-call-test.false in
     record {

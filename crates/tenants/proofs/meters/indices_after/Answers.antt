@@ -12,7 +12,7 @@ pub loop-i-preserved : goal.loop-i-preserved
 loop-i-preserved c =
     let h : c.loop-i.i < length c.loop-i.indices = omega arith in (
       simp length-set c.loop-i.invariant.0,
-      simp c.index-at.ensures (fill_by_more (after c.args.old.now c.args.monthly.now c.args.months c.args.lot.seed) c.loop-i.indices c.loop-i.i 0 h c.loop-i.invariant.1),
+      simp c.index_at.ensures (fill_by_more (after c.args.old.now c.args.monthly.now c.args.months c.args.lot.seed) c.loop-i.indices c.loop-i.i 0 h c.loop-i.invariant.1),
     )
 
 pub returns : goal.returns

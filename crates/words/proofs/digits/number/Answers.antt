@@ -7,13 +7,13 @@ use Rattle.words.proofs.digits.number.Goals as goal
 pub loop-digit-init : goal.loop-digit-init
 loop-digit-init c = refl
 
-pub returns-in-default : goal.returns-in-default
-returns-in-default c =
+pub returns-in_default : goal.returns-in_default
+returns-in_default c =
     let word = c.args.word.now in
     let i = c.loop-digit.digit-index in
     let h : i < length word = omega arith in
     let m : number_from (Some c.loop-digit.value) (drop i word) ≡ number_from (digit_more c.loop-digit.value (get_or word i 0)) (drop (i + 1) word) = at_drop_more (number_from (Some c.loop-digit.value)) word i 0 h in
-    let n : digit_more c.loop-digit.value (get_or word i 0) ≡ None = sym c.in-default.ensures in
+    let n : digit_more c.loop-digit.value (get_or word i 0) ≡ None = sym c.in_default.ensures in
     let e : number_from (Some 0) word ≡ None = c.loop-digit.invariant ∙ m ∙ ap (λ o. number_from o (drop (i + 1) word)) n in
     grind (arith, nat_tests)
 

@@ -11,15 +11,15 @@ pub loop-init : goal.loop-init
 loop-init c =
     (ap length c.new-numbers.ensures, omega arith, at_first (held c.new-numbers.result) (numbers_of 26 c.args.line.now) c.new-numbers.ensures)
 
-pub returns-then-is-empty : goal.returns-then-is-empty
-returns-then-is-empty c =
-    let h : is_end c.loop.rest.now ≡ true = sym (c.if-is-empty.ensures ∙ ap (λ (w : List ℕ). eqb (length w) 0) c.split-word.ensures.word) in
+pub returns-then-is_empty : goal.returns-then-is_empty
+returns-then-is_empty c =
+    let h : is_end c.loop.rest.now ≡ true = sym (c.if-is_empty.ensures ∙ ap (λ (w : List ℕ). eqb (length w) 0) c.split_word.ensures.word) in
     sym (at-end (held c.loop.numbers) c.loop.rest.now (26 - c.loop.counter) (numbers_of 26 c.args.line.now) c.loop.invariant.2 h)
 
-pub returns-in-default : goal.returns-in-default
-returns-in-default c =
-    let h : is_end c.loop.rest.now ≡ false = sym (c.if-is-empty.ensures ∙ ap (λ (w : List ℕ). eqb (length w) 0) c.split-word.ensures.word) in
-    let n : number_of (word_of c.loop.rest.now) ≡ None = sym (c.in-default.ensures ∙ ap number_of c.split-word.ensures.word) in
+pub returns-in_default : goal.returns-in_default
+returns-in_default c =
+    let h : is_end c.loop.rest.now ≡ false = sym (c.if-is_empty.ensures ∙ ap (λ (w : List ℕ). eqb (length w) 0) c.split_word.ensures.word) in
+    let n : number_of (word_of c.loop.rest.now) ≡ None = sym (c.in_default.ensures ∙ ap number_of c.split_word.ensures.word) in
     sym (at_other (held c.loop.numbers) c.loop.rest.now (26 - c.loop.counter) (numbers_of 26 c.args.line.now) c.loop.invariant.2 h n)
 
 pub returns-then-not-push : goal.returns-then-not-push

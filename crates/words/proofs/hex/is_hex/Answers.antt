@@ -4,8 +4,8 @@ use Rattle.std.proofs.lemmas.List.{at_drop_more, at_drop_all}
 use Rattle.words.specs.Hex.{is_hex_digit, are_hex_digits}
 use Rattle.words.proofs.hex.is_hex.Goals as goal
 
-pub returns-then-not-is-hex-digit : goal.returns-then-not-is-hex-digit
-returns-then-not-is-hex-digit c =
+pub returns-then-not-is_hex_digit : goal.returns-then-not-is_hex_digit
+returns-then-not-is_hex_digit c =
     let word = c.args.word.now in
     let i = c.loop-byte.byte-index in
     let h : i < length word = omega arith in

@@ -17,8 +17,8 @@ loop-i-preserved c =
     let m : span_of blank (drop i bytes) ≡ cond (beq (is_blank (get_or bytes i 0)) blank) (1 + span_of blank (drop (i + 1) bytes)) 0 = at_drop_more (span_of blank) bytes i 0 h in
     grind (arith, nat_tests)
 
-pub returns-then-is-blank-blank : goal.returns-then-is-blank-blank
-returns-then-is-blank-blank c =
+pub returns-then-is_blank-blank : goal.returns-then-is_blank-blank
+returns-then-is_blank-blank c =
     let bytes = c.args.bytes.now in
     let blank = c.args.blank in
     let i = c.loop-i.i in

@@ -22,5 +22,5 @@ returns c =
     let f = c.args.form.now in
     let n : f.next ≤ 1200 = omega arith in
     let b : balance_fits f.balance ≡ true = search rules in
-    c.with-registers.ensures
+    c.with_registers.ensures
     ∙ known f c.in-Some.state (dwelling_of c.in-Ok.profile) (state_at f.state) (profile_made f.profile) (leb f.next 1200 && balance_fits f.balance) (within f.next (balance_fits f.balance) n b) c.in-Some.ensures.value c.in-Ok.ensures

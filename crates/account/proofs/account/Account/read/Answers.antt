@@ -5,9 +5,9 @@ use Rattle.account.specs.Registers.{register_fits, RegisterLimits}
 use Rattle.account.proofs.Following.{reading-readies}
 use Rattle.account.proofs.account.Account.read.Goals as goal
 
-pub invariant-of-result : goal.invariant-of-result
-invariant-of-result c =
+pub invariant_of-result : goal.invariant_of-result
+invariant_of-result c =
     let a = c.args.self in
-    let s = reading-readies a.state c.in-ok-state.state c.in-ok-state.ensures in
-    let w : RegisterLimits (Waiting c.in-ok-state.state) a.profile.kinds c.in-Some-waiting-after.waiting = λ i h. subst (λ s. register_fits (Waiting s) a.profile.kinds c.in-Some-waiting-after.waiting i ≡ true) (sym s) (c.in-Some-waiting-after.ensures.limits i h) in
-    (a.month, (c.in-Some.ensures.limits, (w, (search rules, tt))))
+    let s = reading-readies a.state c.in_ok-state.state c.in_ok-state.ensures in
+    let w : RegisterLimits (Waiting c.in_ok-state.state) a.profile.kinds c.in-Some-waiting_after.waiting = λ i h. subst (λ s. register_fits (Waiting s) a.profile.kinds c.in-Some-waiting_after.waiting i ≡ true) (sym s) (c.in-Some-waiting_after.ensures.limits i h) in
+    record { month = a.month; shown = c.in-Some.ensures.limits; unsettled = w; owed = search rules }

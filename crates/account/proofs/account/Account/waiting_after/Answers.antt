@@ -18,11 +18,11 @@ joined-kwh-requires c =
     let w : get_or a.waiting i 0 ≤ 100000 = kwh-most (kind_of a.profile.kinds i) (get_or a.waiting i 0) (waits-within a.state a.profile.kinds a.waiting i (a.unsettled i (omega arith))) in
     search rules
 
-pub returns-then-kwh-gt-MOST-KWH : goal.returns-then-kwh-gt-MOST-KWH
-returns-then-kwh-gt-MOST-KWH c =
+pub returns-then-kwh-gt-MOST_KWH : goal.returns-then-kwh-gt-MOST_KWH
+returns-then-kwh-gt-MOST_KWH c =
     let t : Tenancy = tenancy_of c.args.self.now in
-    let s = c.register-size-size.ensures.value in
-    let k = ap register_size c.kind-of.ensures in
+    let s = c.register_size-size.ensures.value in
+    let k = ap register_size c.kind_of.ensures in
     let d : c.joined-kwh.result ≡ joined t c.args.indices.now c.loop-i.i = cc in
     let f : join_fits t c.args.indices.now c.loop-i.i ≡ false = grind (arith, nat_tests) in
     record { value = rw (all_to-not (join_fits t c.args.indices.now) 12 c.loop-i.i (omega arith) f); limits = tt }
@@ -31,8 +31,8 @@ pub loop-i-preserved : goal.loop-i-preserved
 loop-i-preserved c =
     let t : Tenancy = tenancy_of c.args.self.now in
     let h : c.loop-i.i < length c.loop-i.waiting = omega arith in
-    let s = c.register-size-size.ensures.value in
-    let k = ap register_size c.kind-of.ensures in
+    let s = c.register_size-size.ensures.value in
+    let k = ap register_size c.kind_of.ensures in
     let d : c.joined-kwh.result ≡ joined t c.args.indices.now c.loop-i.i = cc in
     let f : join_fits t c.args.indices.now c.loop-i.i ≡ true = grind (arith, nat_tests) in
     let m = all_to-more (join_fits t c.args.indices.now) c.loop-i.i in (

@@ -5,8 +5,8 @@ use Rattle.account.specs.Waiting.{kwh_on}
 use Rattle.account.proofs.Kwh.{circuit-most}
 use Rattle.account.proofs.account.Account.waiting_in_all.Goals as goal
 
-pub overflow-add-sum : goal.overflow-add-sum
-overflow-add-sum c =
+pub overflow_add-sum : goal.overflow_add-sum
+overflow_add-sum c =
     let a = c.args.self.now in
     let i : ℕ = c.loop-i.i in
     let m : kwh_on c.args.hours (tenancy_of a) i ≤ 100000 = circuit-most a.state a.profile.kinds a.waiting a.unsettled c.args.hours i (omega arith) in

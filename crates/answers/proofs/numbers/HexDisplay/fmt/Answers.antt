@@ -16,15 +16,15 @@ pub loop-byte-preserved : goal.loop-byte-preserved
 loop-byte-preserved g c = λ plain.
     let bytes = c.args.self.now.0.now in
     let i = c.loop-byte.byte-index in
-    let high = c.hex-digit-high.result in
-    let low = c.hex-digit-low.result in
+    let high = c.hex_digit-high.result in
+    let low = c.hex_digit-low.result in
     let so_far = c.loop-byte.invariant plain in
     let digits : encode high ++ encode low ≡ hex_byte (get_or bytes i 0) =
-    two high low c.hex-digit-high.ensures.ascii c.hex-digit-low.ensures.ascii
-    ∙ (λ j. c.hex-digit-high.ensures.digit j ∷ c.hex-digit-low.ensures.digit j ∷ []) in
+    two high low c.hex_digit-high.ensures.ascii c.hex_digit-low.ensures.ascii
+    ∙ (λ j. c.hex_digit-high.ensures.digit j ∷ c.hex_digit-low.ensures.digit j ∷ []) in
     put_next g.W.Write.write_str_gives hex_byte bytes i c.args.f.now c.loop-byte.f c.write.new.self (omega arith) so_far
     (has_written_of_eq g.W.Write.write_str_gives c.loop-byte.f (encode high ++ encode low) (hex_byte (get_or bytes i 0)) c.write.new.self digits
-    (c.in-ok-write.ensures.shows so_far.plain (refl {a = true})))
+    (c.in_ok-write.ensures.writes so_far.plain (refl {a = true})))
 
 pub returns-clause-writes : goal.returns-clause-writes
 returns-clause-writes g c = λ plain _.

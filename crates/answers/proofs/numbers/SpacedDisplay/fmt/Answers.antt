@@ -10,7 +10,7 @@ pub loop-number-preserved : goal.loop-number-preserved
 loop-number-preserved g c = λ plain.
     let so_far = c.loop-number.invariant plain in
     put_next g.W.Write.write_str_gives spaced c.args.self.now.0.now c.loop-number.number-index c.args.f.now c.loop-number.f c.write.new.self
-    (omega arith) so_far (c.in-ok-write.ensures.shows so_far.plain (refl {a = true}))
+    (omega arith) so_far (c.in_ok-write.ensures.writes so_far.plain (refl {a = true}))
 
 pub returns-clause-writes : goal.returns-clause-writes
 returns-clause-writes g c = λ plain _.

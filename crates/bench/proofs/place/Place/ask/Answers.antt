@@ -7,8 +7,8 @@ use Rattle.run.specs.Asked.{asked}
 use Rattle.bench.proofs.OneCall.{one_answer}
 use Rattle.bench.proofs.place.Place.ask.Goals as goal
 
-pub invariant-of-self : goal.invariant-of-self
-invariant-of-self c =
+pub invariant_of-self : goal.invariant_of-self
+invariant_of-self c =
     let place = c.args.self.now in
     let v = c.run.new.answers in
     let one : length (vec_items v) ≡ 1 =

@@ -14,8 +14,8 @@ use Rattle.bench.proofs.standing.Bench.make.Goals as goal
 
 pub returns : goal.returns
 returns c =
-    let m = board_meaning c.in-ok-board.board in
-    let is : Ok m ≡ form_made true c.args.form = c.in-ok-board.ensures in
+    let m = board_meaning c.in_ok-board.board in
+    let is : Ok m ≡ form_made true c.args.form = c.in_ok-board.ensures in
     let none : posted_of c.in-Ok-Ok.months ≡ [] = c.in-Ok-Ok.ensures in
     let P : List (ℕ × ℕ) → Type 0 = λ months. Reached [] (books_with months m) in
     record {
@@ -24,5 +24,5 @@ returns c =
           ∙ ap (λ (x : ℕ). Ok (m.capacity, x)) c.limit.ensures
           ∙ ap (made figures_of) is;
       after = ap (λ (months : List (ℕ × ℕ)). board (books_with months m)) none ∙ ap (λ (x : Result (BoardMeaning Row) NotMade). made_after x (stand_of c.args.self.now)) is;
-      starts = subst P (sym none) (starts-new true c.args.form m (sym is) (board-lawful c.in-ok-board.board));
+      starts = subst P (sym none) (starts-new true c.args.form m (sym is) (board-lawful c.in_ok-board.board));
     }

@@ -17,13 +17,13 @@ loop-line-init c =
       sym (ap (λ n. read_on (9 - n) (lines_of h) (drop (21 * n) b)) c.new-house.ensures.count ∙ ap (λ ls. read_on 9 ls b) c.new-house.ensures.lines),
     )
 
-pub returns-in-err-line : goal.returns-in-err-line
-returns-in-err-line c =
-    let p = err_from_is_err_and c.from-residual.result c.from-residual.ensures.1 in
-    let f = c.in-err-line.field-0.0 in
-    let e : read_of c.args.bytes.now ≡ Err f = c.loop-line.invariant.1 ∙ turned c.args.bytes.now c.loop-line.house (Err f) c.in-err-line.ensures.value in
-    let v : lines_made c.from-residual.result ≡ read_of c.args.bytes.now = ap lines_made p.1 ∙ ap Err p.2 ∙ sym e in
-    record { value = v; writing = subst (IsWriting c.args.bytes.now) (sym v) (read-written c.args.bytes.now (λ i. (c.type-inv.bytes i).fits)) }
+pub returns-in_err-line : goal.returns-in_err-line
+returns-in_err-line c =
+    let p = err_from_is_err_and c.from_residual.result c.from_residual.ensures.1 in
+    let f = c.in_err-line.field-0.0 in
+    let e : read_of c.args.bytes.now ≡ Err f = c.loop-line.invariant.1 ∙ turned c.args.bytes.now c.loop-line.house (Err f) c.in_err-line.ensures.value in
+    let v : lines_made c.from_residual.result ≡ read_of c.args.bytes.now = ap lines_made p.1 ∙ ap Err p.2 ∙ sym e in
+    record { value = v; writing = subst (IsWriting c.args.bytes.now) (sym v) (read-written c.args.bytes.now (λ i. (c.type_inv.bytes i).fits)) }
 
 pub loop-line-preserved : goal.loop-line-preserved
 loop-line-preserved c =
@@ -31,8 +31,8 @@ loop-line-preserved c =
     let h = c.loop-line.house in
     let l = c.in-Plan.line in
     let left = take (length b - 21 * h.count) (drop (21 * h.count) b) in
-    let v = c.in-ok-line.ensures.value in
-    let room : EntryRoom h.count left (Ok (Plan l)) = subst (λ e. EntryRoom h.count left (Ok e)) c.in-Plan.is c.in-ok-line.ensures.room in
+    let v = c.in_ok-line.ensures.value in
+    let room : EntryRoom h.count left (Ok (Plan l)) = subst (λ e. EntryRoom h.count left (Ok e)) c.in-Plan.is c.in_ok-line.ensures.room in
     let t = turned b h (Ok (Plan l)) (ap Ok (sym c.in-Plan.is) ∙ v) in
     let more = c.push.ensures.count in
     let d : length left ≡ length b - 21 * h.count = ap length (take_rest b (21 * h.count)) ∙ length-drop (21 * h.count) b in
@@ -47,5 +47,5 @@ loop-line-preserved c =
 pub returns-in-End : goal.returns-in-End
 returns-in-End c =
     let e : Ok (lines_of c.loop-line.house) ≡ read_of c.args.bytes.now =
-    sym (c.loop-line.invariant.1 ∙ turned c.args.bytes.now c.loop-line.house (Ok End) (ap Ok (sym c.in-End.is) ∙ c.in-ok-line.ensures.value)) in
-    record { value = e; writing = subst (IsWriting c.args.bytes.now) (sym e) (read-written c.args.bytes.now (λ i. (c.type-inv.bytes i).fits)) }
+    sym (c.loop-line.invariant.1 ∙ turned c.args.bytes.now c.loop-line.house (Ok End) (ap Ok (sym c.in-End.is) ∙ c.in_ok-line.ensures.value)) in
+    record { value = e; writing = subst (IsWriting c.args.bytes.now) (sym e) (read-written c.args.bytes.now (λ i. (c.type_inv.bytes i).fits)) }

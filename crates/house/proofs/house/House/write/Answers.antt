@@ -14,12 +14,12 @@ loop-line-preserved c =
     let was = c.loop-line.place in
     let now = c.put.new.place in
     let e = c.lines-line-items.ensures in
-    let n : length c.line-bytes.result ≡ 21 = ap length c.line-bytes.ensures in
+    let n : length c.line_bytes.result ≡ 21 = ap length c.line_bytes.ensures in
     let h : i < length ls = omega (arith, ap length e) in
-    let l = c.line-bytes.ensures ∙ ap (λ xs. line_bytes (get_or xs i no_line)) e in (
+    let l = c.line_bytes.ensures ∙ ap (λ xs. line_bytes (get_or xs i no_line)) e in (
       c.put.array_long,
       omega arith,
-      ap (λ k. take (at + k) now) (sym n) ∙ c.put.ensures.front ∙ ap (λ t. t ++ c.line-bytes.result) c.loop-line.invariant.2
+      ap (λ k. take (at + k) now) (sym n) ∙ c.put.ensures.front ∙ ap (λ t. t ++ c.line_bytes.result) c.loop-line.invariant.2
           ∙ ap (λ t. flat_map line_bytes (take i ls) ++ t) l ∙ flat_map_more line_bytes [] (take i ls) (get_or ls i no_line) ∙ ap (flat_map line_bytes) (sym (take_more ls i no_line h)),
       ap (λ k. drop (at + k) now) (sym n) ∙ c.put.ensures.rest ∙ ap (λ k. drop (at + k) was) n ∙ sym (drop-drop 21 at was)
           ∙ ap (drop 21) c.loop-line.invariant.3 ∙ drop-drop 21 at c.args.place.now,

@@ -15,6 +15,6 @@ returns-in-Some-eq1-default-default c =
     let size : size_of bs ≡ 18 = omega (arith, content-size bs long, ap length k.2) in
     let few : c.args.count < 8 = grind (arith, nat_tests) in
     record {
-      value = c.plan-in.ensures ∙ ap (λ x. plan_of c.args.at (line_in x)) k.2 ∙ sym (entry-plan c.args.count c.args.at bs few (omega arith) tag size);
-      room = subst (EntryRoom c.args.count bs) (sym c.plan-in.ensures) (plan-room c.args.count c.args.at bs (line_in content) few (omega arith));
+      value = c.plan_in.ensures ∙ ap (λ x. plan_of c.args.at (line_in x)) k.2 ∙ sym (entry-plan c.args.count c.args.at bs few (omega arith) tag size);
+      room = subst (EntryRoom c.args.count bs) (sym c.plan_in.ensures) (plan-room c.args.count c.args.at bs (line_in content) few (omega arith));
     }

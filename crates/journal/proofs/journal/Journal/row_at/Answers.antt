@@ -11,19 +11,19 @@ returns-then-latest-eq0 c =
       len = tt;
     }
 
-pub read-block-entry-requires : goal.read-block-entry-requires
-read-block-entry-requires c =
+pub read_block-entry-requires : goal.read_block-entry-requires
+read_block-entry-requires c =
     let b = c.args.self.now in
     let n = c.args.number in
     omega (arith, place-within b.capacity n b.used (vec_items b.memory) (get_or b.latest n 0) c.requires.inside (b.index n c.requires.inside), b.within, b.fits, c.if-latest-eq0.false)
 
-pub returns-then-not-is-row : goal.returns-then-not-is-row
-returns-then-not-is-row c =
+pub returns-then-not-is_row : goal.returns-then-not-is_row
+returns-then-not-is_row c =
     let b = c.args.self.now in
     let n = c.args.number in
     record {
       value = sym (row-cleared b.capacity n b.used (vec_items b.memory) (get_or b.latest n 0) c.requires.inside (b.index n c.requires.inside)
-          c.read-block-entry.result.now c.read-block-entry.ensures.value c.if-latest-eq0.false c.if-not-is-row.ensures);
+          c.read_block-entry.result.now c.read_block-entry.ensures.value c.if-latest-eq0.false c.if-not-is_row.ensures);
       len = tt;
     }
 
@@ -33,6 +33,6 @@ returns c =
     let n = c.args.number in
     record {
       value = sym (row-found b.capacity n b.used (vec_items b.memory) (get_or b.latest n 0) c.requires.inside (b.index n c.requires.inside)
-          c.read-block-entry.result.now c.read-block-entry.ensures.value c.if-latest-eq0.false c.if-not-is-row.ensures c.read-block-entry.ensures.len);
-      len = simp (length-take, length-drop) (omega (arith, c.read-block-entry.ensures.len));
+          c.read_block-entry.result.now c.read_block-entry.ensures.value c.if-latest-eq0.false c.if-not-is_row.ensures c.read_block-entry.ensures.len);
+      len = simp (length-take, length-drop) (omega (arith, c.read_block-entry.ensures.len));
     }

@@ -6,10 +6,10 @@ use Rattle.table.specs.Slots.{slot_rows}
 use Rattle.table.specs.SlotRows.{slot_rows-zeros}
 use Rattle.table.proofs.table.Table.without_rows.Goals as goal
 
-pub invariant-of-result : goal.invariant-of-result
-invariant-of-result c =
+pub invariant_of-result : goal.invariant_of-result
+invariant_of-result c =
     let filled = c.fill.ensures.items (λ y h. h) in
-    (c.requires.some, (c.requires.few, (omega (arith, c.fill.ensures.len, c.requires.fits), (subst Bytes (sym filled) (bytes-zeros _), tt))))
+    record { some = c.requires.some; few = c.requires.few; fits = omega (arith, c.fill.ensures.len, c.requires.fits); bytes = subst Bytes (sym filled) (bytes-zeros _) }
 
 pub returns : goal.returns
 returns c =

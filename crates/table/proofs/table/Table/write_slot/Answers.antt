@@ -8,10 +8,10 @@ use Rattle.table.specs.Slots.{slot_row, slot_rows}
 use Rattle.table.specs.SlotRows.{length-slot_rows, slot_rows-put}
 use Rattle.table.proofs.table.Table.write_slot.Goals as goal
 
-pub invariant-of-self : goal.invariant-of-self
-invariant-of-self c =
+pub invariant_of-self : goal.invariant_of-self
+invariant_of-self c =
     let b = c.args.self.now in
-    (b.some, (b.few, (omega (arith, c.write-block.ensures.len, b.fits), (c.write-block.ensures.bytes b.bytes, tt))))
+    record { some = b.some; few = b.few; fits = omega (arith, c.write_block.ensures.len, b.fits); bytes = c.write_block.ensures.bytes b.bytes }
 
 pub returns : goal.returns
 returns c =
@@ -20,8 +20,8 @@ returns c =
     let row = c.args.row.now in
     let slot : List ℕ = c.byte.result ∷ row in
     let wide : 1 + length row ≡ 129 = omega (arith, c.told-row) in
-    let rows : slot_rows b.capacity (vec_items c.write-block.new.memory) ≡ set (slot_rows b.capacity bytes) c.args.number (slot_row slot) =
-    ap (slot_rows b.capacity) (c.write-block.ensures.items ∙ ap (λ w. with_block w c.args.number slot bytes) wide)
+    let rows : slot_rows b.capacity (vec_items c.write_block.new.memory) ≡ set (slot_rows b.capacity bytes) c.args.number (slot_row slot) =
+    ap (slot_rows b.capacity) (c.write_block.ensures.items ∙ ap (λ w. with_block w c.args.number slot bytes) wide)
     ∙ slot_rows-put b.capacity c.args.number slot bytes c.requires.inside (omega (arith, b.fits, b.memory.ok.0)) (omega (arith, c.told-row)) in
     let holds : slot_row slot ≡ marked c.args.mark row = ap (λ byte. held byte row) c.byte.ensures.value ∙ held-marked c.args.mark row in
     record {

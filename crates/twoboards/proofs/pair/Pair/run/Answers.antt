@@ -16,14 +16,14 @@ not-ok : {X E : Type 0} (r : Result X E) → is_err r ≡ true → is_ok r ≡ f
 not-ok (Ok x) h = sym h
 not-ok (Err e) h = refl
 
-pub returns-then-not-has-room : goal.returns-then-not-has-room
-returns-then-not-has-room g c =
+pub returns-then-not-has_room : goal.returns-then-not-has_room
+returns-then-not-has_room g c =
     let n : ℕ = length c.args.calls.now in
-    let t = c.args.on-table.now in
-    let j = c.args.on-journal.now in
+    let t = c.args.on_table.now in
+    let j = c.args.on_journal.now in
     let b = on_table c.args.self.now in
     let asks = map (asked g.S.Sheet.tariff) c.args.calls.now in
-    let none : has_room (vec_capacity j) (vec_len j) n ≡ false = sym c.has-room.ensures ∙ c.if-not-has-room.true in
+    let none : has_room (vec_capacity j) (vec_len j) n ≡ false = sym c.has_room.ensures ∙ c.if-not-has_room.true in
     let nothing-table = nothing-behind (vec_len t) (vec_items t) (search rules) in
     let nothing-journal = nothing-behind (vec_len j) (vec_items j) (search rules) in
     record {
@@ -35,15 +35,15 @@ returns-then-not-has-room g c =
       lawful = lawful-run stands b asks (replies_behind (vec_len t) (vec_items t)) b (reached-none b asks (replies_behind (vec_len t) (vec_items t)) nothing-table);
     }
 
-pub returns-in-err-run : goal.returns-in-err-run
-returns-in-err-run g c =
+pub returns-in_err-run : goal.returns-in_err-run
+returns-in_err-run g c =
     let n : ℕ = length c.args.calls.now in
-    let t = c.args.on-table.now in
-    let j = c.args.on-journal.now in
+    let t = c.args.on_table.now in
+    let j = c.args.on_journal.now in
     let b = on_table c.args.self.now in
     let asks = map (asked g.S.Sheet.tariff) c.args.calls.now in
-    let none : has_room (vec_capacity t) (vec_len t) n ≡ false = sym c.in-err-run.ensures.made in
-    let refused = not-ok c.from-residual.result c.from-residual.ensures.0 in
+    let none : has_room (vec_capacity t) (vec_len t) n ≡ false = sym c.in_err-run.ensures.made in
+    let refused = not-ok c.from_residual.result c.from_residual.ensures.0 in
     record {
       made = refused ∙ sym (ap (λ room. room && has_room (vec_capacity j) (vec_len j) n) none);
       replies = c.run.ensures.replies ∙ ap (λ room. replies_given room b asks) (none ∙ sym refused);
@@ -56,13 +56,13 @@ returns-in-err-run g c =
 pub returns : goal.returns
 returns g c =
     let n : ℕ = length c.args.calls.now in
-    let t = c.args.on-table.now in
-    let j = c.args.on-journal.now in
+    let t = c.args.on_table.now in
+    let j = c.args.on_journal.now in
     let b = on_table c.args.self.now in
     let d = on_journal c.args.self.now in
     let asks = map (asked g.S.Sheet.tariff) c.args.calls.now in
-    let first : has_room (vec_capacity t) (vec_len t) n ≡ true = sym c.in-ok-run.ensures.made in
-    let second : has_room (vec_capacity j) (vec_len j) n ≡ true = sym c.has-room.ensures ∙ c.if-not-has-room.false in
+    let first : has_room (vec_capacity t) (vec_len t) n ≡ true = sym c.in_ok-run.ensures.made in
+    let second : has_room (vec_capacity j) (vec_len j) n ≡ true = sym c.has_room.ensures ∙ c.if-not-has_room.false in
     let done : is_ok c.run-2.result ≡ true = c.run-2.ensures.made ∙ second in
     record {
       made = done ∙ sym (ap (λ room. room && has_room (vec_capacity j) (vec_len j) n) first ∙ second);

@@ -7,10 +7,10 @@ use Rattle.board.proofs.Rooms.{nothing-to-clear}
 use Rattle.journal.specs.Journals.{journal_meaning}
 use Rattle.journal.proofs.journal.calls.JournalBoard.clear.Goals as goal
 
-pub returns-else-is-some : goal.returns-else-is-some
-returns-else-is-some c =
+pub returns-else-is_some : goal.returns-else-is_some
+returns-else-is_some c =
     let b = c.args.self.now in
-    let none = ap is_some (sym c.row-at.ensures.value) ∙ is_some-mapped (λ x. x.now) c.row-at.result ∙ sym c.if-is-some.ensures in
+    let none = ap is_some (sym c.row_at.ensures.value) ∙ is_some-mapped (λ x. x.now) c.row_at.result ∙ sym c.if-is_some.ensures in
     let inside = lt-ltb c.args.number b.capacity c.if-number-self.false in
     record {
       answer = ap (λ t. cond t (Ok tt) (Err (Outside c.args.number))) (sym inside);
