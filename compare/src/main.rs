@@ -16,7 +16,7 @@ compare samples SEED PART LINES ..
     a random script with so many lines about each part;
     a part is pricing, table, journal or both
 compare set prices|everything
-    the random script that the program `samples` is held against
+    the random script that the program `desksamples` is held against
 compare coverage < SCRIPT
     what a script reaches, and how often
 compare difference SCRIPT EXPECTED ANSWERED

@@ -1,5 +1,5 @@
 //! Times the proved programs beside plain Rust, and prints a table of ratios.
-//! `speed PROGRAMS [COMPARE SCRIPT]`: the folder of the proved programs, and the program `compare` with a script that both replay.
+//! `speed SPEED [REPLAY COMPARE SCRIPT]`: the proved program `speed`, and the proved `deskreplay` and the program `compare` with a script that both replay.
 
 mod cabinet;
 mod decree;
@@ -9,7 +9,7 @@ mod proved;
 mod sqlite;
 mod work;
 
-use proved::{Programs, whole_run};
+use proved::{Speed, whole_run};
 use std::io;
 use std::path::{Path, PathBuf};
 use std::time::Duration;
@@ -47,55 +47,55 @@ fn line(name: &str, proved: Done, other: Done, count: u64) {
 }
 
 /// A line of what a work costs at several sizes.
-fn growth(programs: &Programs, name: &str, words: &[&str], sizes: &[[u64; 4]]) -> io::Result<()> {
+fn growth(speed: &Speed, name: &str, words: &[&str], sizes: &[[u64; 4]]) -> io::Result<()> {
     print!("{name:<44}");
     for numbers in sizes {
-        let (_, taken) = best(|| programs.work(words, numbers))?;
+        let (_, taken) = best(|| speed.work(words, numbers))?;
         print!(" {:>10.1}", each(taken, numbers[3]));
     }
     println!();
     Ok(())
 }
 
-fn beside_rust(programs: &Programs) -> io::Result<()> {
+fn beside_rust(speed: &Speed) -> io::Result<()> {
     println!(
         "{:<44} {:>10} {:>10} {:>7}",
         "nanoseconds for one", "proved", "Rust", "ratio"
     );
-    let ours = best(|| programs.work(&["choose", "table"], &[1, 2, 1, 1_000]))?;
+    let ours = best(|| speed.work(&["choose", "table"], &[1, 2, 1, 1_000]))?;
     line(
         "a plan chosen on the decree sheet",
         ours,
         best(|| Ok(work::choose(1_000)))?,
         1_000,
     );
-    let ours = best(|| programs.work(&["settle", "table"], &[8, 2, 1_200, 9_600]))?;
+    let ours = best(|| speed.work(&["settle", "table"], &[8, 2, 1_200, 9_600]))?;
     line(
         "a reading and its settling",
         ours,
         best(|| Ok(work::settle(8, 1_200, 9_600)))?,
         9_600,
     );
-    let ours = best(|| programs.work(&["pay", "table"], &[4_096, 2, 1, ROWS]))?;
+    let ours = best(|| speed.work(&["pay", "table"], &[4_096, 2, 1, ROWS]))?;
     line(
         "a payment, 4,096 accounts",
         ours,
         best(|| Ok(work::pay(4_096, 1, ROWS)))?,
         ROWS,
     );
-    let ours = best(|| programs.work(&["read", "table"], &[4_096, 2, 1, ROWS]))?;
+    let ours = best(|| speed.work(&["read", "table"], &[4_096, 2, 1, ROWS]))?;
     line(
         "a reading, 4,096 accounts",
         ours,
         best(|| Ok(work::read(4_096, 1, ROWS)))?,
         ROWS,
     );
-    let ours = best(|| programs.work(&["post", "table"], &[1, 2, 0, 1_200]))?;
+    let ours = best(|| speed.work(&["post", "table"], &[1, 2, 0, 1_200]))?;
     line("a posting", ours, best(|| Ok(work::post(0, 1_200)))?, 1_200);
     Ok(())
 }
 
-fn rows(programs: &Programs) -> io::Result<()> {
+fn rows(speed: &Speed) -> io::Result<()> {
     println!(
         "\n{:<44} {:>10} {:>10} {:>7}",
         "a row of 4,096, nanoseconds", "proved", "array", "ratio"
@@ -107,11 +107,11 @@ fn rows(programs: &Programs) -> io::Result<()> {
     let table = [4_096, 2, 1, ROWS];
     line(
         "read from a table board",
-        best(|| programs.work(&["load", "table"], &table))?,
+        best(|| speed.work(&["load", "table"], &table))?,
         load,
         ROWS,
     );
-    let table_store = best(|| programs.work(&["store", "table"], &table))?;
+    let table_store = best(|| speed.work(&["store", "table"], &table))?;
     line("stored on a table board", table_store, store, ROWS);
     for (name, entries) in [
         ("E = 2 L", 8_192),
@@ -119,14 +119,14 @@ fn rows(programs: &Programs) -> io::Result<()> {
         ("E = 15 L", 61_440),
     ] {
         let numbers = [4_096, entries, 1, ROWS];
-        let read = best(|| programs.work(&["load", "journal"], &numbers))?;
+        let read = best(|| speed.work(&["load", "journal"], &numbers))?;
         line(
             &format!("read from a journal board, {name}"),
             read,
             load,
             ROWS,
         );
-        let stored = best(|| programs.work(&["store", "journal"], &numbers))?;
+        let stored = best(|| speed.work(&["store", "journal"], &numbers))?;
         line(
             &format!("stored on a journal board, {name}"),
             stored,
@@ -160,7 +160,7 @@ fn databases() -> io::Result<()> {
     Ok(())
 }
 
-fn growths(programs: &Programs) -> io::Result<()> {
+fn growths(speed: &Speed) -> io::Result<()> {
     println!(
         "\n{:<44} {:>10} {:>10} {:>10}",
         "by accounts, nanoseconds", 1, 64, 4_096
@@ -174,7 +174,7 @@ fn growths(programs: &Programs) -> io::Result<()> {
     };
     for work in ["pay", "read"] {
         growth(
-            programs,
+            speed,
             &format!("{work}, table board"),
             &[work, "table"],
             &by_accounts(90_000),
@@ -186,7 +186,7 @@ fn growths(programs: &Programs) -> io::Result<()> {
         [4_096, 8_192, 12, 90_000],
     ];
     growth(
-        programs,
+        speed,
         "pay, journal board, E = 2 L",
         &["pay", "journal"],
         &journals,
@@ -198,7 +198,7 @@ fn growths(programs: &Programs) -> io::Result<()> {
     let by_months = [[1, 2, 1, 100], [1, 2, 100, 100], [1, 2, 1_100, 100]];
     for work in ["post", "pay", "read"] {
         growth(
-            programs,
+            speed,
             &format!("{work}, table board"),
             &[work, "table"],
             &by_months,
@@ -214,27 +214,26 @@ fn growths(programs: &Programs) -> io::Result<()> {
         [1_024, 16_384, 1, 200_000],
     ];
     growth(
-        programs,
+        speed,
         "a row stored, L = 1,024",
         &["store", "journal"],
         &by_entries,
     )?;
     growth(
-        programs,
+        speed,
         "a row read, L = 1,024",
         &["load", "journal"],
         &by_entries,
     )?;
-    growth(programs, "pay, L = 1,024", &["pay", "journal"], &by_entries)
+    growth(speed, "pay, L = 1,024", &["pay", "journal"], &by_entries)
 }
 
-fn replays(programs: &Programs, compare: &Path, script: &Path) -> io::Result<()> {
+fn replays(replay: &Path, compare: &Path, script: &Path) -> io::Result<()> {
     let lines = std::fs::read(script)?
         .iter()
         .filter(|&&byte| byte == b'\n')
         .count() as u64;
-    let replay = programs.0.join("replay");
-    let ours = best(|| Ok((0, whole_run(&replay, &[], script)?)))?;
+    let ours = best(|| Ok((0, whole_run(replay, &[], script)?)))?;
     let theirs = best(|| Ok((0, whole_run(compare, &["answers"], script)?)))?;
     println!(
         "\n{:<44} {:>10} {:>10} {:>7}",
@@ -246,16 +245,16 @@ fn replays(programs: &Programs, compare: &Path, script: &Path) -> io::Result<()>
 
 fn main() -> io::Result<()> {
     let words: Vec<PathBuf> = std::env::args_os().skip(1).map(PathBuf::from).collect();
-    let [programs, rest @ ..] = words.as_slice() else {
-        eprintln!("usage: speed PROGRAMS [COMPARE SCRIPT]");
+    let [speed, rest @ ..] = words.as_slice() else {
+        eprintln!("usage: speed SPEED [REPLAY COMPARE SCRIPT]");
         return Ok(());
     };
-    let programs = Programs(programs.clone());
-    beside_rust(&programs)?;
-    rows(&programs)?;
-    growths(&programs)?;
+    let speed = Speed(speed.clone());
+    beside_rust(&speed)?;
+    rows(&speed)?;
+    growths(&speed)?;
     match rest {
-        [compare, script] => replays(&programs, compare, script),
+        [replay, compare, script] => replays(replay, compare, script),
         _ => Ok(()),
     }
 }

@@ -6,13 +6,13 @@ use std::path::{Path, PathBuf};
 use std::process::{Command, Stdio};
 use std::time::{Duration, Instant};
 
-/// The folder that the proved programs stand in.
-pub struct Programs(pub PathBuf);
+/// The proved program `speed`.
+pub struct Speed(pub PathBuf);
 
-impl Programs {
-    /// A work of the proved program `speed`, which tells its own time.
+impl Speed {
+    /// A work of it. It tells its own time.
     pub fn work(&self, words: &[&str], numbers: &[u64]) -> io::Result<Done> {
-        let output = Command::new(self.0.join("speed"))
+        let output = Command::new(&self.0)
             .args(words)
             .args(numbers.iter().map(u64::to_string))
             .output()?;

@@ -7,7 +7,7 @@ use Rattle.board.specs.Meaning.{Row}
 use Rattle.boards.specs.declared.making.NotMade.{NotMade}
 use Rattle.boards.specs.declared.making.NotMade.TheVariants as unmade
 use Rattle.house.specs.declared.line.Line as house
-use Rattle.lineforms.specs.declared.name.SheetName.{SheetName}
+use Rattle.script.specs.declared.line.SheetName.{SheetName}
 use Rattle.callforms.specs.declared.forms.BoardForm.{BoardForm}
 use Rattle.sheets.specs.Named.{tariff_named}
 use Rattle.ledger.specs.Calls.{blank}

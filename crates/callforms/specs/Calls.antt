@@ -6,10 +6,10 @@ use Rattle.run.specs.declared.call.Call.{Call}
 use Rattle.run.specs.declared.call.Call.TheVariants.{Post, Open, Read, Settle, Pay, Close, Show}
 use Rattle.words.specs.Words.{word_of, rest_of}
 use Rattle.words.specs.Numbers.{is_end, number_of, numbers_of}
-use Rattle.lineforms.specs.declared.name.SheetName.{SheetName}
+use Rattle.script.specs.declared.line.SheetName.{SheetName}
 use Rattle.lineforms.specs.declared.verb.CallVerb.{CallVerb}
 use Rattle.lineforms.specs.declared.verb.CallVerb.TheVariants as verb
-use Rattle.lineforms.specs.Names.{sheet_at}
+use Rattle.script.specs.Lines.{sheet_at}
 use Rattle.lineforms.specs.Forms.{opening_in, indices_in}
 
 -- one number

@@ -3,14 +3,14 @@ use Rattle.std.specs.Prelude.{◌≡◌, ℕ, Bool, true, List, Some, None, Opti
 use Rattle.facts.specs.Forms.{facts_made}
 use Rattle.rating.specs.Ratings.{rating_of}
 use Rattle.sheets.specs.Named.{tariff_named}
-use Rattle.script.specs.declared.line.Line.{Line}
-use Rattle.script.specs.declared.line.Line.TheVariants.{Silent, Unreadable, Rating, House, Price, Choose, Board, Call, Row, Store, Clear}
+use Rattle.scriptlines.specs.declared.line.Line.{Line}
+use Rattle.scriptlines.specs.declared.line.Line.TheVariants.{Silent, Unreadable, Rating, House, Price, Choose, Board, Call, Row, Store, Clear}
 use Rattle.answers.specs.declared.answer.Answer.{Answer}
 use Rattle.answers.specs.declared.answer.Answer.TheVariants as answer
 use Rattle.answers.specs.Tells.{had_memory}
 use Rattle.answerwords.specs.Words.{row_of}
-use Rattle.pricelines.specs.Answers.{rating_answer, price_line_answer, choose_line_answer, house_line_answer, house_line_after}
-use Rattle.pricelines.specs.Moving.{Moved}
+use Rattle.priceanswers.specs.Answers.{rating_answer, price_line_answer, choose_line_answer, house_line_answer, house_line_after}
+use Rattle.priceanswers.specs.Moving.{Moved}
 use Rattle.bench.specs.Makings.{make_after}
 use Rattle.bench.specs.Deeds.{row_after, clear_reply, clear_after, call_reply, call_after, KeepsLaw}
 use Rattle.benchlines.specs.Answers.{board_line_answer, asked_with, call_line_answer, row_line_answer, deed_answer, store_line_answer, store_line_after, StartsMade}

@@ -1,14 +1,14 @@
 // The answer to a line.
 ghost use Rattle.std.specs.Prelude.{◌≡◌};
-ghost use Rattle.script.specs.Lines.{said, line_of};
+ghost use Rattle.scriptlines.specs.Lines.{said, line_of};
 ghost use Rattle.desk.specs.Desks.{desk_of};
 ghost use Rattle.desk.specs.Lines.{found_memory, line_answer, line_after, LineMoves, LineKeepsLaw};
 
 use crate::desk::Desk;
 use answers::Answer;
 use benchlines::{board_answer, call_answer, clear_answer, row_answer, store_answer};
-use pricelines::{choose_answer, house_answer, price_answer, rating_answer};
-use script::{Line, read_line};
+use priceanswers::{choose_answer, house_answer, price_answer, rating_answer};
+use scriptlines::{Line, read_line};
 use std::alloc::Global;
 
 impl Desk {

@@ -4,8 +4,8 @@ use Rattle.sheet.specs.Tariff.{Tariff}
 use Rattle.house.specs.declared.line.Line.{Line}
 use Rattle.house.specs.declared.line.SheetFault.{SheetFault}
 use Rattle.house.specs.Reading.{read_of}
-use Rattle.lineforms.specs.declared.name.SheetName.{SheetName}
-use Rattle.lineforms.specs.declared.name.SheetName.TheVariants.{Decree, House, ProtectedDecree, ProtectedHouse}
+use Rattle.script.specs.declared.line.SheetName.{SheetName}
+use Rattle.script.specs.declared.line.SheetName.TheVariants.{Decree, House, ProtectedDecree, ProtectedHouse}
 use Rattle.sheets.specs.Named.{tariff_named}
 use Rattle.exports.specs.declared.fault.Fault.{Fault}
 use Rattle.exports.specs.declared.fault.Fault.TheVariants as fault

@@ -1,3 +1,2 @@
-pub mod Names
 pub mod Verbs
 pub mod Forms

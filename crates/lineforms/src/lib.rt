@@ -2,9 +2,8 @@
 #![tactic(auto)]
 
 mod forms;
-mod name;
 mod verb;
 
 pub use forms::{facts_in, indices_in, opening_in};
-pub use name::{SheetName, sheet_of};
+pub use script::{SheetName, sheet_of};
 pub use verb::{CallVerb, Verb, verb_of};

@@ -4,8 +4,9 @@
 ghost use Rattle.std.specs.Prelude.{◌≡◌};
 ghost use Rattle.player.specs.LineEnds.{without_end};
 
-use answers::Answer;
-use desk::Desk;
+use house::House;
+use pricelines::answer_text;
+use script::Answer;
 use std::alloc::Global;
 use std::io;
 use std::io::{BufRead, BufReader, BufWriter, ErrorKind, Write};
@@ -54,11 +55,11 @@ fn play_lines<In: BufRead, Out: Write>(
     input: &mut In,
     output: &mut Out,
 ) -> io::Result<()> {
-    let mut desk = Desk::new();
+    let mut house = House::new();
     let mut line = Vec::new(heap);
     for _ in 0..u64::MAX {
         let answer = match next_line(input, &mut line)? {
-            Next::Line => desk.answer_text(heap, without_end(line.as_slice())),
+            Next::Line => answer_text(heap, without_end(line.as_slice()), &mut house),
             Next::TooLong => Some(Answer::NoMemory),
             Next::End => return output.flush(),
         };

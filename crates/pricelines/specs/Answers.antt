@@ -1,5 +1,5 @@
 -- What each pricing line is answered.
-use Rattle.std.specs.Prelude.{ℕ, Bool, cond, List, length, Some, None, Ok, Err, Option, Result}
+use Rattle.std.specs.Prelude.{ℕ, Bool, true, false, cond, List, length, Some, None, Ok, Err, Option, Result}
 use Rattle.rating.specs.declared.RatingFault.{RatingFault}
 use Rattle.rating.specs.Ratings.{rating_refusal}
 use Rattle.facts.specs.declared.form.FactsFault.{FactsFault}
@@ -13,8 +13,8 @@ use Rattle.house.specs.declared.line.Line.{Line}
 use Rattle.house.specs.declared.line.SheetFault.{SheetFault}
 use Rattle.house.specs.Refusals.{sheet_refusal}
 use Rattle.house.specs.Reading.{read_of, reading_after}
-use Rattle.answers.specs.declared.answer.Answer.{Answer}
-use Rattle.answers.specs.declared.answer.Answer.TheVariants as answer
+use Rattle.script.specs.declared.answer.Answer.{Answer}
+use Rattle.script.specs.declared.answer.Answer.TheVariants as answer
 
 abbrev pub rating_answer : Result ℕ RatingFault → Answer
 rating_answer (Ok tenths) = answer.Tenths tenths
@@ -50,3 +50,27 @@ house_line_answer memory text = cond memory (read_answer (read_of (bytes_of text
 
 abbrev pub house_line_after : Bool → List ℕ → List Line → List Line
 house_line_after memory text lines = cond memory (reading_after (read_of (bytes_of text)) lines) lines
+
+-- memory was found, by what is answered
+abbrev pub had_memory : Answer → Bool
+had_memory (answer.Tenths n) = true
+had_memory (answer.Lines n) = true
+had_memory (answer.Parts fixed energy cents) = true
+had_memory answer.NotPermitted = true
+had_memory (answer.Plan code fixed energy cents) = true
+had_memory answer.NoPlan = true
+had_memory (answer.Refused r) = true
+had_memory answer.Unreadable = true
+had_memory answer.NoMemory = false
+
+-- the count of lines that were read, where an answer says one
+abbrev pub lines_read : Answer → Option ℕ
+lines_read (answer.Tenths n) = None
+lines_read (answer.Lines n) = Some n
+lines_read (answer.Parts fixed energy cents) = None
+lines_read answer.NotPermitted = None
+lines_read (answer.Plan code fixed energy cents) = None
+lines_read answer.NoPlan = None
+lines_read (answer.Refused r) = None
+lines_read answer.Unreadable = None
+lines_read answer.NoMemory = None

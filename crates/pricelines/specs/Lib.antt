@@ -1,2 +1,2 @@
 pub mod Answers
-pub mod Moving
+pub mod Lines

@@ -1,8 +1,8 @@
-// The lines that ask for a rating or a price, or bring a house sheet, with their answers.
+// The answers to the pricing lines of a script.
 #![tactic(auto)]
 
-mod asked;
+mod answering;
+mod pricing;
 mod reading;
 
-pub use asked::{choose_answer, price_answer, rating_answer};
-pub use reading::house_answer;
+pub use answering::{answer, answer_text};

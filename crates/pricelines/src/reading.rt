@@ -1,12 +1,11 @@
 // Lines that bring a house sheet.
-ghost use Rattle.std.specs.Prelude.{◌≡◌};
+ghost use Rattle.std.specs.Prelude.{◌≡◌, Some};
 ghost use Rattle.house.specs.Houses.{lines_of};
-ghost use Rattle.answers.specs.Tells.{had_memory};
-ghost use Rattle.pricelines.specs.Answers.{house_line_answer, house_line_after};
-ghost use Rattle.pricelines.specs.Moving.{Moved};
+ghost use Rattle.pricelines.specs.Answers.{house_line_answer, house_line_after, had_memory};
+ghost use Rattle.pricelines.specs.Lines.{Moved};
 
-use answers::Answer;
 use house::House;
+use script::Answer;
 use std::alloc::Global;
 use words::unhex;
 
@@ -14,7 +13,7 @@ use words::unhex;
 pub fn house_answer(heap: Global, text: &[u8], house: &mut House) -> Answer
     ensures answer { result ≡ house_line_answer (had_memory result) text.now }
     ensures after { lines_of house.new ≡ house_line_after (had_memory result) text.now (lines_of house.old) }
-    ensures moved { Moved (lines_of house.old) (lines_of house.new) result }
+    ensures moved { Moved (lines_of house.old) (lines_of house.new) (Some result) }
 {
     let Ok(bytes) = unhex(heap, text) else {
         return Answer::NoMemory;

@@ -1,21 +1,49 @@
 -- What the lines of a script ask for.
-use Rattle.std.specs.Prelude.{ℕ, Bool, true, false, cond, ◌&&◌, ◌||◌, List, length, Some, None, Option, ◌==◌, slice_index}
+use Rattle.std.specs.Prelude.{ℕ, ◌+◌, Bool, true, false, cond, ◌&&◌, ◌||◌, List, [], ◌∷◌, length, Some, None, codes, Option, ◌==◌, slice_index}
 use Rattle.std.specs.Borrow.{Bor}
-use Rattle.std.specs.Option.{option_map}
+use Rattle.figures.specs.Sums.{sum_of_ne, sum_of_nc}
+use Rattle.facts.specs.declared.form.ProfileForm.{ProfileForm}
 use Rattle.facts.specs.declared.form.FactsForm.{FactsForm}
-use Rattle.words.specs.Words.{word_of, rest_of}
-use Rattle.words.specs.Numbers.{is_end, number_of, numbers_of}
+use Rattle.words.specs.Words.{is_word, word_of, rest_of}
+use Rattle.words.specs.Numbers.{is_end, numbers_of}
 use Rattle.words.specs.Hex.{is_hex}
-use Rattle.lineforms.specs.declared.name.SheetName.{SheetName}
-use Rattle.lineforms.specs.Names.{sheet_at}
-use Rattle.lineforms.specs.declared.verb.Verb.{Verb}
-use Rattle.lineforms.specs.declared.verb.Verb.TheVariants as verb
-use Rattle.lineforms.specs.Verbs.{verb_of}
-use Rattle.lineforms.specs.Forms.{facts_in}
-use Rattle.callforms.specs.Boards.{board_in}
-use Rattle.callforms.specs.Calls.{account_in, call_in}
+use Rattle.script.specs.declared.line.SheetName.{SheetName}
+use Rattle.script.specs.declared.line.SheetName.TheVariants as sheet
 use Rattle.script.specs.declared.line.Line.{Line}
-use Rattle.script.specs.declared.line.Line.TheVariants.{Silent, Unreadable, Rating, House, Price, Choose, Board, Call, Row, Store, Clear}
+use Rattle.script.specs.declared.line.Line.TheVariants.{Silent, Unreadable, Rating, House, Price, Choose}
+
+abbrev pub sheet_at : List ℕ → Option SheetName
+sheet_at word =
+    cond (is_word word (codes "decree")) (Some sheet.Decree)
+    (cond (is_word word (codes "house")) (Some sheet.House)
+    (cond (is_word word (codes "protected-decree")) (Some sheet.ProtectedDecree)
+    (cond (is_word word (codes "protected-house")) (Some sheet.ProtectedHouse) None)))
+
+-- six numbers, every other one from a place on
+abbrev pub every_other : List ℕ → ℕ → List ℕ
+every_other n at =
+    slice_index n at ∷ slice_index n (at + 2) ∷ slice_index n (at + 4) ∷ slice_index n (at + 6) ∷ slice_index n (at + 8) ∷ slice_index n (at + 10) ∷ []
+
+-- class, marks, power, exempt power and six kinds
+abbrev pub profile_form : List ℕ → ℕ → ProfileForm
+profile_form n at = record {
+  class = slice_index n at;
+  marks = slice_index n (at + 1);
+  power = slice_index n (at + 2);
+  exempt = slice_index n (at + 3);
+  kinds = slice_index n (at + 4) ∷ slice_index n (at + 5) ∷ slice_index n (at + 6) ∷ slice_index n (at + 7) ∷ slice_index n (at + 8) ∷ slice_index n (at + 9) ∷ [];
+}
+
+-- a profile, six circuits' kWh by day and by night in turn, months and two sums
+abbrev pub facts_form : List ℕ → ℕ → FactsForm
+facts_form n at = record {
+  profile = profile_form n at;
+  day = every_other n (at + 10);
+  night = every_other n (at + 11);
+  months = slice_index n (at + 22);
+  ne = sum_of_ne (slice_index n (at + 23));
+  nc = sum_of_nc (slice_index n (at + 24));
+}
 
 -- a line with the bytes that it holds
 abbrev pub said : Line (Bor (List ℕ)) → Line (List ℕ)
@@ -23,83 +51,39 @@ said Silent = Silent
 said Unreadable = Unreadable
 said (Rating network ampere) = Rating network ampere
 said (House text) = House text.now
-said (Price sheet code facts) = Price sheet code facts
-said (Choose sheet facts) = Choose sheet facts
-said (Board form) = Board form
-said (Call call) = Call call
-said (Row account) = Row account
-said (Store account text) = Store account text.now
-said (Clear account) = Clear account
+said (Price s code facts) = Price s code facts
+said (Choose s facts) = Choose s facts
 
 -- `rating NETWORK AMPERE`
-abbrev pub rating_line : Option (List ℕ) → Option (Line (List ℕ))
-rating_line None = None
-rating_line (Some n) = cond (length n == 2) (Some (Rating (slice_index n 0) (slice_index n 1))) None
-
-abbrev pub rating_in : List ℕ → Option (Line (List ℕ))
-rating_in rest = rating_line (numbers_of 26 rest)
+abbrev pub rating_line : Option (List ℕ) → Line (List ℕ)
+rating_line None = Unreadable
+rating_line (Some n) = cond (length n == 2) (Rating (slice_index n 0) (slice_index n 1)) Unreadable
 
 -- `house HEX`
-abbrev pub house_in : List ℕ → Option (Line (List ℕ))
-house_in rest = cond (is_hex (word_of rest) && is_end (rest_of rest)) (Some (House (word_of rest))) None
+abbrev pub house_line : List ℕ → Line (List ℕ)
+house_line rest = cond (is_hex (word_of rest) && is_end (rest_of rest)) (House (word_of rest)) Unreadable
 
--- `price SHEET CODE` and facts
-abbrev pub price_line : Option SheetName → Option ℕ → Option FactsForm → Option (Line (List ℕ))
-price_line None code facts = None
-price_line (Some sheet) None facts = None
-price_line (Some sheet) (Some code) None = None
-price_line (Some sheet) (Some code) (Some facts) = Some (Price sheet code facts)
+-- `price SHEET CODE ..`
+abbrev pub price_line : Option SheetName → Option (List ℕ) → Line (List ℕ)
+price_line None o = Unreadable
+price_line (Some s) None = Unreadable
+price_line (Some s) (Some n) = cond (length n == 26) (Price s (slice_index n 0) (facts_form n 1)) Unreadable
 
-abbrev pub price_in : List ℕ → Option (Line (List ℕ))
-price_in rest = price_line (sheet_at (word_of rest)) (number_of (word_of (rest_of rest))) (facts_in (rest_of (rest_of rest)))
+-- `choose SHEET ..`
+abbrev pub choose_line : Option SheetName → Option (List ℕ) → Line (List ℕ)
+choose_line None o = Unreadable
+choose_line (Some s) None = Unreadable
+choose_line (Some s) (Some n) = cond (length n == 25) (Choose s (facts_form n 0)) Unreadable
 
--- `choose SHEET` and facts
-abbrev pub choose_line : Option SheetName → Option FactsForm → Option (Line (List ℕ))
-choose_line None facts = None
-choose_line (Some sheet) None = None
-choose_line (Some sheet) (Some facts) = Some (Choose sheet facts)
-
-abbrev pub choose_in : List ℕ → Option (Line (List ℕ))
-choose_in rest = choose_line (sheet_at (word_of rest)) (facts_in (rest_of rest))
-
--- a row's 128 bytes in hexadecimal digits
-abbrev pub is_row_text : List ℕ → Bool
-is_row_text text = length text == 256 && is_hex text
-
--- `store ACCOUNT HEX`
-abbrev pub store_line : Option ℕ → List ℕ → Bool → Option (Line (List ℕ))
-store_line None text last = None
-store_line (Some account) text last = cond (is_row_text text && last) (Some (Store account text)) None
-
-abbrev pub store_in : List ℕ → Option (Line (List ℕ))
-store_in rest = store_line (number_of (word_of rest)) (word_of (rest_of rest)) (is_end (rest_of (rest_of rest)))
-
--- what a verb and the text behind it ask for, none where they are of no form
-abbrev pub asked : Verb → List ℕ → Option (Line (List ℕ))
-asked verb.Rating rest = rating_in rest
-asked verb.House rest = house_in rest
-asked verb.Price rest = price_in rest
-asked verb.Choose rest = choose_in rest
-asked verb.Board rest = option_map (λ form. Board form) (board_in rest)
-asked verb.Row rest = option_map (λ account. Row account) (account_in rest)
-asked verb.Store rest = store_in rest
-asked verb.Clear rest = option_map (λ account. Clear account) (account_in rest)
-asked (verb.Call v) rest = option_map (λ call. Call call) (call_in v rest)
-
--- a line that asks for nothing is unreadable
-abbrev pub readable : Option (Line (List ℕ)) → Line (List ℕ)
-readable None = Unreadable
-readable (Some line) = line
-
--- a line by its verb and the text behind it
-abbrev pub line_by : Option Verb → List ℕ → Line (List ℕ)
-line_by None rest = Unreadable
-line_by (Some v) rest = readable (asked v rest)
-
--- a line by its first word and the text behind it; `#` begins a comment
+-- the line of a first word and what stands behind it
 abbrev pub line_with : List ℕ → List ℕ → Line (List ℕ)
-line_with word rest = cond (length word == 0 || slice_index word 0 == 35) Silent (line_by (verb_of word) rest)
+line_with word rest =
+    cond (length word == 0 || slice_index word 0 == 35) Silent
+    (cond (is_word word (codes "rating")) (rating_line (numbers_of 26 rest))
+    (cond (is_word word (codes "house")) (house_line rest)
+    (cond (is_word word (codes "price")) (price_line (sheet_at (word_of rest)) (numbers_of 26 (rest_of rest)))
+    (cond (is_word word (codes "choose")) (choose_line (sheet_at (word_of rest)) (numbers_of 26 (rest_of rest))) Unreadable))))
 
--- what a line asks for
+-- what a line asks for; `#` begins a comment
 abbrev pub line_of : List ℕ → Line (List ℕ)
 line_of line = line_with (word_of line) (rest_of line)

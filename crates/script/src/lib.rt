@@ -1,10 +1,10 @@
-// The lines of a replay script.
+// The lines of a replay script, and the answers to them.
 #![tactic(auto)]
 
+mod answer;
 mod line;
 mod reading;
 
-pub use callforms::BoardForm;
-pub use line::Line;
-pub use lineforms::SheetName;
-pub use reading::read_line;
+pub use answer::Answer;
+pub use line::{Line, SheetName};
+pub use reading::{read_line, sheet_of};

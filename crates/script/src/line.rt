@@ -1,11 +1,17 @@
 // What a line can ask for.
-use callforms::BoardForm;
 use facts::FactsForm;
-use lineforms::SheetName;
-use run::Call;
+
+// The price sheets that a line can name.
+#[derive(Clone, Copy)]
+pub enum SheetName {
+    Decree,
+    House,
+    ProtectedDecree,
+    ProtectedHouse,
+}
 
 // A line as it was read. T is the text of hexadecimal digits that some lines hold, two for each byte.
-#[derive(Drop)]
+#[derive(Clone, Copy)]
 pub enum Line<T> {
     // blank, or a comment
     Silent,
@@ -25,17 +31,4 @@ pub enum Line<T> {
         sheet: SheetName,
         facts: FactsForm,
     },
-    // a new board
-    Board(BoardForm),
-    // a call on the cabinet
-    Call(Call<SheetName>),
-    // the row of a number as the board holds it
-    Row(u64),
-    // a row stored by an earlier user of the board
-    Store {
-        number: u64,
-        text: T,
-    },
-    // a row cleared by an earlier user of the board
-    Clear(u64),
 }

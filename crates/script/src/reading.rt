@@ -1,125 +1,174 @@
 // Reading a line.
-ghost use Rattle.std.specs.Prelude.{◌≡◌};
+ghost use Rattle.std.specs.Prelude.{◌≡◌, ◌+◌, ◌<◌, ◌≤◌, true, length};
 ghost use Rattle.std.specs.Option.{option_map};
-ghost use Rattle.words.specs.Words.{word_of};
-ghost use Rattle.script.specs.Lines.{said, rating_in, house_in, price_in, choose_in, is_row_text, store_in, asked, line_with, line_of};
-ghost use Rattle.script.specs.Saying.{SaidBy};
+ghost use Rattle.words.specs.Words.{word_of, rest_of};
+ghost use Rattle.words.specs.Numbers.{numbers_of};
+ghost use Rattle.script.specs.Lines.{sheet_at, profile_form, every_other, facts_form, rating_line, house_line, price_line, choose_line, line_of, said};
 
-use crate::line::Line;
-use callforms::{account_in, board_in, call_in};
-use lineforms::{Verb, facts_in, sheet_of, verb_of};
-use words::{all_numbers, is_hex, number, split_word};
+use crate::line::{Line, SheetName};
+use facts::{FactsForm, ProfileForm};
+use figures::{NcSum, NeSum};
+use words::{all_numbers, is_hex, is_word, split_word};
+
+// The sheet of a name.
+pub fn sheet_of(word: &[u8]) -> Option<SheetName>
+    ensures { result ≡ sheet_at word.now }
+{
+    if is_word(word, b"decree") {
+        return Some(SheetName::Decree);
+    }
+    if is_word(word, b"house") {
+        return Some(SheetName::House);
+    }
+    if is_word(word, b"protected-decree") {
+        return Some(SheetName::ProtectedDecree);
+    }
+    if is_word(word, b"protected-house") {
+        return Some(SheetName::ProtectedHouse);
+    }
+    None
+}
+
+// Six numbers, every other one from a place on.
+fn every_other(n: &[u64], at: usize) -> [u64; 6]
+    requires { at + 11 ≤ length n.now }
+    ensures { result ≡ every_other n.now at }
+{
+    [
+        n[at],
+        n[at + 2],
+        n[at + 4],
+        n[at + 6],
+        n[at + 8],
+        n[at + 10],
+    ]
+}
+
+// The profile that ten numbers give: class, marks, power, exempt power and six kinds.
+fn profile_form(n: &[u64], at: usize) -> ProfileForm
+    requires { at + 10 ≤ length n.now }
+    ensures { result ≡ profile_form n.now at }
+{
+    ProfileForm {
+        class: n[at],
+        marks: n[at + 1],
+        power: n[at + 2],
+        exempt: n[at + 3],
+        kinds: [
+            n[at + 4],
+            n[at + 5],
+            n[at + 6],
+            n[at + 7],
+            n[at + 8],
+            n[at + 9],
+        ],
+    }
+}
+
+// The facts that 25 numbers give: a profile, six circuits' kWh by day and by night, months and two sums.
+fn facts_form(n: &[u64], at: usize) -> FactsForm
+    requires { at + 25 ≤ length n.now }
+    ensures { result ≡ facts_form n.now at }
+{
+    FactsForm {
+        profile: profile_form(n, at),
+        day: every_other(n, at + 10),
+        night: every_other(n, at + 11),
+        months: n[at + 22],
+        ne: NeSum::new(n[at + 23]),
+        nc: NcSum::new(n[at + 24]),
+    }
+}
 
 // `rating NETWORK AMPERE`
-fn rating<'a>(rest: &'a [u8]) -> Option<Line<&'a [u8]>>
-    ensures { option_map said result ≡ rating_in rest.now }
+fn rating_line<'a>(rest: &'a [u8]) -> Line<&'a [u8]>
+    ensures { said result ≡ rating_line (numbers_of 26 rest.now) }
 {
-    let numbers = all_numbers(rest)?;
+    let Some(numbers) = all_numbers(rest) else {
+        return Line::Unreadable;
+    };
     match numbers.as_slice() {
-        [network, ampere] => Some(Line::Rating {
+        [network, ampere] => Line::Rating {
             network: *network,
             ampere: *ampere,
-        }),
-        _ => None,
+        },
+        _ => Line::Unreadable,
     }
 }
 
 // `house HEX`
-fn house<'a>(rest: &'a [u8]) -> Option<Line<&'a [u8]>>
-    ensures { option_map said result ≡ house_in rest.now }
+fn house_line<'a>(rest: &'a [u8]) -> Line<&'a [u8]>
+    ensures { said result ≡ house_line rest.now }
 {
-    let (text, behind) = split_word(rest);
-    if !is_hex(text) || !split_word(behind).0.is_empty() {
-        return None;
+    let (word, behind) = split_word(rest);
+    if !is_hex(word) || !split_word(behind).0.is_empty() {
+        return Line::Unreadable;
     }
-    Some(Line::House(text))
+    Line::House(word)
 }
 
 // `price SHEET CODE ..`
-fn price<'a>(rest: &'a [u8]) -> Option<Line<&'a [u8]>>
-    ensures { option_map said result ≡ price_in rest.now }
+fn price_line<'a>(rest: &'a [u8]) -> Line<&'a [u8]>
+    ensures { said result ≡ price_line (sheet_at (word_of rest.now)) (numbers_of 26 (rest_of rest.now)) }
 {
-    let (sheet, behind) = split_word(rest);
-    let (code, behind) = split_word(behind);
-    Some(Line::Price {
-        sheet: sheet_of(sheet)?,
-        code: number(code)?,
-        facts: facts_in(behind)?,
-    })
+    let (word, behind) = split_word(rest);
+    let Some(sheet) = sheet_of(word) else {
+        return Line::Unreadable;
+    };
+    let Some(numbers) = all_numbers(behind) else {
+        return Line::Unreadable;
+    };
+    let n = numbers.as_slice();
+    if n.len() != 26 {
+        return Line::Unreadable;
+    }
+    Line::Price {
+        sheet,
+        code: n[0],
+        facts: facts_form(n, 1),
+    }
 }
 
 // `choose SHEET ..`
-fn choose<'a>(rest: &'a [u8]) -> Option<Line<&'a [u8]>>
-    ensures { option_map said result ≡ choose_in rest.now }
+fn choose_line<'a>(rest: &'a [u8]) -> Line<&'a [u8]>
+    ensures { said result ≡ choose_line (sheet_at (word_of rest.now)) (numbers_of 26 (rest_of rest.now)) }
 {
-    let (sheet, behind) = split_word(rest);
-    Some(Line::Choose {
-        sheet: sheet_of(sheet)?,
-        facts: facts_in(behind)?,
-    })
-}
-
-// Whether a text is a row's 128 bytes, two hexadecimal digits for each.
-fn is_row_text(text: &[u8]) -> bool
-    ensures { result ≡ is_row_text text.now }
-{
-    text.len() == 256 && is_hex(text)
-}
-
-// `store ACCOUNT HEX`
-fn store<'a>(rest: &'a [u8]) -> Option<Line<&'a [u8]>>
-    ensures { option_map said result ≡ store_in rest.now }
-{
-    let (account, behind) = split_word(rest);
-    let (text, behind) = split_word(behind);
-    let account = number(account)?;
-    if !is_row_text(text) || !split_word(behind).0.is_empty() {
-        return None;
+    let (word, behind) = split_word(rest);
+    let Some(sheet) = sheet_of(word) else {
+        return Line::Unreadable;
+    };
+    let Some(numbers) = all_numbers(behind) else {
+        return Line::Unreadable;
+    };
+    let n = numbers.as_slice();
+    if n.len() != 25 {
+        return Line::Unreadable;
     }
-    Some(Line::Store {
-        number: account,
-        text,
-    })
-}
-
-// What a line asks for by its verb and what stands behind it, none where it is of no form.
-fn ask<'a>(verb: Verb, rest: &'a [u8]) -> Option<Line<&'a [u8]>>
-    ensures { option_map said result ≡ asked verb rest.now }
-{
-    match verb {
-        Verb::Rating => rating(rest),
-        Verb::House => house(rest),
-        Verb::Price => price(rest),
-        Verb::Choose => choose(rest),
-        Verb::Board => Some(Line::Board(board_in(rest)?)),
-        Verb::Row => Some(Line::Row(account_in(rest)?)),
-        Verb::Store => store(rest),
-        Verb::Clear => Some(Line::Clear(account_in(rest)?)),
-        Verb::Call(call) => Some(Line::Call(call_in(call, rest)?)),
+    Line::Choose {
+        sheet,
+        facts: facts_form(n, 0),
     }
 }
 
-// What a line asks for by its first word and what stands behind it.
-fn line_with<'a>(word: &[u8], rest: &'a [u8]) -> Line<&'a [u8]>
-    ensures { said result ≡ line_with word.now rest.now }
+// What a line asks for.
+pub fn read_line<'a>(line: &'a [u8]) -> Line<&'a [u8]>
+    ensures { said result ≡ line_of line.now }
 {
+    let (word, rest) = split_word(line);
     if word.is_empty() || word[0] == b'#' {
         return Line::Silent;
     }
-    let Some(verb) = verb_of(word) else {
-        return Line::Unreadable;
-    };
-    match ask(verb, rest) {
-        Some(line) => line,
-        None => Line::Unreadable,
+    if is_word(word, b"rating") {
+        return rating_line(rest);
     }
-}
-
-// What a line asks for, nothing but what its first word says.
-pub fn read_line<'a>(line: &'a [u8]) -> Line<&'a [u8]>
-    ensures value { said result ≡ line_of line.now }
-    ensures says { SaidBy (word_of line.now) (said result) }
-{
-    let (word, rest) = split_word(line);
-    line_with(word, rest)
+    if is_word(word, b"house") {
+        return house_line(rest);
+    }
+    if is_word(word, b"price") {
+        return price_line(rest);
+    }
+    if is_word(word, b"choose") {
+        return choose_line(rest);
+    }
+    Line::Unreadable
 }

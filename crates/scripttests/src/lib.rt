@@ -4,7 +4,7 @@
 #[cfg(test)]
 mod tests {
     use run::Call;
-    use script::{BoardForm, Line, SheetName, read_line};
+    use scriptlines::{BoardForm, Line, SheetName, read_line};
     use std::test::Fail;
 
     // What a line is, without what it holds.

@@ -6,8 +6,8 @@ use Rattle.house.specs.declared.line.Line.{Line}
 use Rattle.house.specs.Houses.{lines_of}
 use Rattle.house.specs.Tariffs.{house_tariff}
 use Rattle.protected.specs.Layer.{protected_over}
-use Rattle.lineforms.specs.declared.name.SheetName.{SheetName}
-use Rattle.lineforms.specs.declared.name.SheetName.TheVariants as name
+use Rattle.script.specs.declared.line.SheetName.{SheetName}
+use Rattle.script.specs.declared.line.SheetName.TheVariants as name
 use Rattle.sheets.specs.declared.any.AnySheet.{AnySheet}
 use Rattle.sheets.specs.declared.any.AnySheet.TheVariants.{Decree, House, ProtectedDecree, ProtectedHouse}
 

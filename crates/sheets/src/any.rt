@@ -12,8 +12,8 @@ ghost use Rattle.sheets.specs.SheetOfAnyLemmas.{lines-lawful};
 use decree::Decree;
 use facts::Facts;
 use house::House;
-use lineforms::SheetName;
 use protected::Protected;
+use script::SheetName;
 use sheet::Sheet;
 
 // A sheet of any kind: the decree sheet, the house sheet, or the protected layer over one of them.

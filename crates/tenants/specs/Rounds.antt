@@ -4,8 +4,8 @@ use Rattle.account.specs.declared.event.OpeningForm.{OpeningForm}
 use Rattle.chance.specs.Drawn.{drawn_below}
 use Rattle.run.specs.declared.call.Call.{Call}
 use Rattle.run.specs.declared.call.Call.TheVariants.{Open, Read, Settle, Pay, Close, Show}
-use Rattle.lineforms.specs.declared.name.SheetName.{SheetName}
-use Rattle.lineforms.specs.declared.name.SheetName.TheVariants.{Decree, House, ProtectedDecree, ProtectedHouse}
+use Rattle.script.specs.declared.line.SheetName.{SheetName}
+use Rattle.script.specs.declared.line.SheetName.TheVariants.{Decree, House, ProtectedDecree, ProtectedHouse}
 use Rattle.tally.specs.declared.tally.Tally.{Tally}
 use Rattle.tenants.specs.declared.rounds.Round.{Round}
 use Rattle.tenants.specs.declared.rounds.Round.TheVariants.{MovingIn, Reading, Settling, Paying, MovingOut, Showing, Slipping}

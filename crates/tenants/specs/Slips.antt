@@ -5,8 +5,8 @@ use Rattle.facts.specs.declared.form.ProfileForm.{ProfileForm}
 use Rattle.chance.specs.Drawn.{drawn, drawn_below}
 use Rattle.run.specs.declared.call.Call.{Call}
 use Rattle.run.specs.declared.call.Call.TheVariants.{Post, Open, Read, Settle, Pay, Close, Show}
-use Rattle.lineforms.specs.declared.name.SheetName.{SheetName}
-use Rattle.lineforms.specs.declared.name.SheetName.TheVariants.{Decree}
+use Rattle.script.specs.declared.line.SheetName.{SheetName}
+use Rattle.script.specs.declared.line.SheetName.TheVariants.{Decree}
 use Rattle.tally.specs.declared.tally.Tally.{Tally}
 use Rattle.tally.specs.Energies.{plus}
 use Rattle.tenants.specs.declared.slips.Slip.{Slip}

@@ -25,7 +25,7 @@ byte_of high low = 16 * digit_of high + digit_of low
 
 -- the byte of the i-th pair of digits
 abbrev pub byte_at : List ℕ → ℕ → ℕ
-byte_at text i = byte_of (slice_index text (2 * i)) (slice_index text (2 * i + 1))
+byte_at text i = 16 * digit_of (slice_index text (2 * i)) + digit_of (slice_index text (2 * i + 1))
 
 -- the bytes of a text, a pair of digits each
 abbrev pub bytes_of : List ℕ → List ℕ

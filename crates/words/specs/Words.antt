@@ -17,11 +17,11 @@ abbrev pub text_of : List ℕ → List ℕ
 text_of line = drop (span_of true line) line
 
 -- its first word, empty where there is none
-unfoldable pub word_of : List ℕ → List ℕ
+abbrev pub word_of : List ℕ → List ℕ
 word_of line = take (span_of false (text_of line)) (text_of line)
 
 -- what stands behind the first word
-unfoldable pub rest_of : List ℕ → List ℕ
+abbrev pub rest_of : List ℕ → List ℕ
 rest_of line = drop (span_of false (text_of line)) (text_of line)
 
 -- the word is the one of this name

@@ -5,7 +5,7 @@ ghost use Rattle.rating.specs.Ratings.{rating_of};
 ghost use Rattle.facts.specs.Forms.{facts_made};
 ghost use Rattle.sheets.specs.Named.{tariff_named};
 ghost use Rattle.answers.specs.Tells.{lines_read};
-ghost use Rattle.pricelines.specs.Answers.{rating_answer, price_line_answer, choose_line_answer};
+ghost use Rattle.priceanswers.specs.Answers.{rating_answer, price_line_answer, choose_line_answer};
 
 use answers::Answer;
 use facts::{Facts, FactsForm};

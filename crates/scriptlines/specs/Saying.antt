@@ -4,8 +4,8 @@ use Rattle.lineforms.specs.declared.verb.Verb.{Verb}
 use Rattle.lineforms.specs.declared.verb.Verb.TheVariants as verb
 use Rattle.lineforms.specs.Verbs.{verb_name}
 use Rattle.callforms.specs.Saying.{call_verb}
-use Rattle.script.specs.declared.line.Line.{Line}
-use Rattle.script.specs.declared.line.Line.TheVariants.{Silent, Unreadable, Rating, House, Price, Choose, Board, Call, Row, Store, Clear}
+use Rattle.scriptlines.specs.declared.line.Line.{Line}
+use Rattle.scriptlines.specs.declared.line.Line.TheVariants.{Silent, Unreadable, Rating, House, Price, Choose, Board, Call, Row, Store, Clear}
 
 -- the verb of what a line asks for; a silent line and an unreadable one ask for nothing
 abbrev pub line_verb : Line (List ℕ) → Option Verb

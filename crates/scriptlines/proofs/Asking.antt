@@ -7,11 +7,11 @@ use Rattle.run.specs.declared.call.Call as run
 use Rattle.words.specs.Words.{word_of, rest_of}
 use Rattle.words.specs.Numbers.{is_end, number_of, numbers_of}
 use Rattle.words.specs.Hex.{is_hex}
-use Rattle.lineforms.specs.declared.name.SheetName.{SheetName}
+use Rattle.script.specs.declared.line.SheetName.{SheetName}
 use Rattle.lineforms.specs.declared.verb.CallVerb.{CallVerb}
 use Rattle.lineforms.specs.declared.verb.Verb.{Verb}
 use Rattle.lineforms.specs.declared.verb.Verb.TheVariants as verb
-use Rattle.lineforms.specs.Names.{sheet_at}
+use Rattle.script.specs.Lines.{sheet_at}
 use Rattle.lineforms.specs.Forms.{facts_in}
 use Rattle.lineforms.specs.Verbs.{verb_name, verb_of, Says}
 use Rattle.lineforms.proofs.Saying.{says}
@@ -19,10 +19,10 @@ use Rattle.callforms.specs.Boards.{board_in}
 use Rattle.callforms.specs.Calls.{account_in, call_in}
 use Rattle.callforms.specs.Saying.{call_verb}
 use Rattle.callforms.proofs.Asking.{CallOf, own-call}
-use Rattle.script.specs.declared.line.Line.{Line}
-use Rattle.script.specs.declared.line.Line.TheVariants.{Silent, Unreadable, Rating, House, Board, Call, Row, Store, Clear}
-use Rattle.script.specs.Lines.{rating_line, price_line, choose_line, is_row_text, store_line, asked, readable, line_by, line_of}
-use Rattle.script.specs.Saying.{line_verb, SaidBy}
+use Rattle.scriptlines.specs.declared.line.Line.{Line}
+use Rattle.scriptlines.specs.declared.line.Line.TheVariants.{Silent, Unreadable, Rating, House, Board, Call, Row, Store, Clear}
+use Rattle.scriptlines.specs.Lines.{rating_line, price_line, choose_line, is_row_text, store_line, asked, readable, line_by, line_of}
+use Rattle.scriptlines.specs.Saying.{line_verb, SaidBy}
 
 -- what is asked for is the verb's
 abbrev LineOf : Verb → Option (Line (List ℕ)) → Type 0

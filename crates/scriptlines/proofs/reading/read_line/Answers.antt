@@ -1,9 +1,9 @@
 use Rattle.std.proofs.Common.{◌≡◌, sym, subst, rules}
 use Rattle.words.specs.Words.{word_of}
-use Rattle.script.specs.Lines.{said, line_of}
-use Rattle.script.specs.Saying.{SaidBy}
-use Rattle.script.proofs.Asking.{said-by}
-use Rattle.script.proofs.reading.read_line.Goals as goal
+use Rattle.scriptlines.specs.Lines.{said, line_of}
+use Rattle.scriptlines.specs.Saying.{SaidBy}
+use Rattle.scriptlines.proofs.Asking.{said-by}
+use Rattle.scriptlines.proofs.reading.read_line.Goals as goal
 
 pub returns : goal.returns
 returns c =

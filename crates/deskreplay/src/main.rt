@@ -1,0 +1,9 @@
+// Reads a script on standard input and writes an answer to each of its lines.
+#![tactic(auto)]
+
+use deskplayer::play;
+use std::io;
+
+fn main(rt: HostRuntime) -> io::Result<()> {
+    play(&rt)
+}

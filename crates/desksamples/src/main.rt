@@ -1,0 +1,9 @@
+// Plays a long random script, whose answers an independent calculation worked out: compare/make-samples writes both.
+#![tactic(auto)]
+
+use deskplayer::play;
+use std::io;
+
+fn main(rt: HostRuntime) -> io::Result<()> {
+    play(&rt)
+}
