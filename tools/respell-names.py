@@ -2,7 +2,7 @@
 """Brings the names of definitions, lemmas and their variables to snake case: monthFigures becomes month_figures.
 
 Run once at the top of the repository, after the toolchain's port.py. It changes whole words alone, in the files of
-crates/ and in README.md and docs/, and leaves types, relations and modules (an upper first letter) and the units kWh
+crates/ and in README.md and docs/, and leaves types, relations and modules (an upper first letter) and the units kW, kWh
 and kVA as they are. Functions of src/ are in snake case already. It prints each file in which a new name falls
 together with a word that stood there.
 """
@@ -10,7 +10,7 @@ import pathlib
 import re
 import sys
 
-UNITS = {"kWh", "kVA"}
+UNITS = {"kW", "kWh", "kVA"}
 # A word whose plain respelling would be another's name, or a field's.
 OTHERWISE = {
     "place_at": "get_or-places_of",

@@ -36,14 +36,13 @@ tenths-fit : (n : ℕ) → n < 2 ^ 16 → tenths_of (n ∷ []) ≡ Some (Tenths 
 tenths-fit n h = cond-true (leb n 65535) (Some (Tenths n)) None (le-leb n 65535 (omega arith))
 
 row_read : (bytes : List ℕ) → AnswerFits (Row bytes) → row_answer (32 ∷ hex_text bytes) ≡ Some (Row bytes)
-unfolding word_of
 row_read bytes h =
     let s = solid-row bytes h.0 h.1 in
     (λ i. bound (row_of (last_word (hex_text bytes) s i)) (λ bs. ended (last_rest (hex_text bytes) s i) (Row bs)))
     ∙ ap (λ o. bound o (λ bs. ended [] (Row bs))) (row_back bytes h.0 h.1)
 
 pub come-back : Answers-come-back
-unfolding is_word word_of rest_of
+unfolding is_word
 come-back (Tenths n) h =
     numbered-back (codes "tenths") n [] (record { some = omega arith; whole = refl }) (omega arith)
     ∙ ap (λ o. bound o tenths_of) (exactly-spaced (n ∷ []) (omega arith, tt)) ∙ tenths-fit n h

@@ -94,7 +94,6 @@ pub front-array : (count : ℕ) (ns t : List ℕ) → length ns ≡ count → Fi
 front-array count ns t l h e = ap (λ k. front_of k (spaced_all ns ++ t)) (sym l) ∙ front-spaced ns t h e
 
 pub exactly-spaced : (ns : List ℕ) → Fit64 ns → exactly (length ns) (spaced_all ns) ≡ Some ns
-unfolding word_of
 exactly-spaced ns h =
     ap (λ o. bound o (λ front. ended front.1 front.0))
     (ap (front_of (length ns)) (sym (append-nil (spaced_all ns))) ∙ front-spaced ns [] h refl)

@@ -50,7 +50,7 @@ module _ (r : Refusal) (small : r.number < 256) (wide : r.place < 2 ^ 64) where
   fits = omega arith
 
   pub refusal-back : refusal_of (refusal_rest r) ≡ Some r
-  unfolding place layered word_of
+  unfolding place layered
   refusal-back =
       let behind : rest_of (refusal_rest r) ≡ layered = next-rest (decimal r.number) layered (solid-decimal r.number fits) refl in
       let word : layer_of (word_of layered) ≡ Some r.layer =
@@ -81,7 +81,6 @@ profile-back p t powers kinds e =
 -- ` I0..I11 W0..W11 BALANCE`
 pub figures-back : (a : AccountForm) → AccountFits a
     → figures_of a.state a.profile a.next (spaced_all a.indices ++ (spaced_all a.waiting ++ (codes " " ++ signed_decimal a.balance))) ≡ Some a
-unfolding word_of
 figures-back a fits =
     let balance : List ℕ = 32 ∷ signed_decimal a.balance in
     let waiting : List ℕ = spaced_all a.waiting ++ balance in

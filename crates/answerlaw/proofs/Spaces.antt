@@ -38,13 +38,11 @@ text-word (b ∷ w) t some h =
 
 module _ (w t : List ℕ) (s : Solid w) (e : Stops t) where
   pub first_word : word_of (w ++ t) ≡ w
-  unfolding word_of
   first_word =
       ap (λ (l : List ℕ). take (span_of false l) l) (text-word w t s.some s.whole)
       ∙ ap (λ n. take n (w ++ t)) (span-word w t s.whole e) ∙ take_at w t (length w) refl
 
   pub first_rest : rest_of (w ++ t) ≡ t
-  unfolding rest_of
   first_rest =
       ap (λ (l : List ℕ). drop (span_of false l) l) (text-word w t s.some s.whole)
       ∙ ap (λ n. drop n (w ++ t)) (span-word w t s.whole e) ∙ drop_at w t (length w) refl
@@ -55,11 +53,9 @@ text-space l = ap (λ n. drop n (32 ∷ l)) (one-add (span_of true l))
 
 module _ (w t : List ℕ) (s : Solid w) (e : Stops t) where
   pub next_word : word_of (32 ∷ (w ++ t)) ≡ w
-  unfolding word_of
   next_word = ap (λ (l : List ℕ). take (span_of false l) l) (text-space (w ++ t)) ∙ first_word w t s e
 
   pub next-rest : rest_of (32 ∷ (w ++ t)) ≡ t
-  unfolding rest_of
   next-rest = ap (λ (l : List ℕ). drop (span_of false l) l) (text-space (w ++ t)) ∙ first_rest w t s e
 
   pub not_end : is_end (32 ∷ (w ++ t)) ≡ false

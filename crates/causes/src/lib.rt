@@ -15,10 +15,10 @@ use sheet::Sheet;
 
 // Makes one call. After every transcript that a new cabinet came to, it is accepted exactly if none of its causes stands, and else refused by the first that does, with that cause's number, layer and place. What an accepted call leaves at its number is what the next showing of it tells.
 pub fn make_call<B: Board, S: Sheet>(cabinet: &mut Cabinet<B>, call: &Call<S>) -> Answer
-    ensures answer { told result ≡ reply_of (books_of meaning cabinet.old) (asked tariff call.now) }
-    ensures after { books_of meaning cabinet.new ≡ after_of (books_of meaning cabinet.old) (asked tariff call.now) }
-    ensures recalled { Recalled (books_of meaning cabinet.old) (asked tariff call.now) (told result) (books_of meaning cabinet.new) }
-    ensures caused { CausedAt (books_of meaning cabinet.old) (asked tariff call.now) (told result) }
+    ensures answer { told result ≡ reply_of (books_of B.meaning cabinet.old) (asked S.tariff call.now) }
+    ensures after { books_of B.meaning cabinet.new ≡ after_of (books_of B.meaning cabinet.old) (asked S.tariff call.now) }
+    ensures recalled { Recalled (books_of B.meaning cabinet.old) (asked S.tariff call.now) (told result) (books_of B.meaning cabinet.new) }
+    ensures caused { CausedAt (books_of B.meaning cabinet.old) (asked S.tariff call.now) (told result) }
 {
     recall::make_call(cabinet, call)
 }

@@ -11,7 +11,7 @@ pub struct Published {
 }
 
 pub const PUBLISHED: [Published; 11] = [
-    // "Toepassingsvoorwaarden van de elektriciteitstarieven", tariff proposal 2019, version of 1 January 2019: 240 k_w and 8,900 kWh in a month are 795.43 euro; at 3,600 kWh the ceiling of 0.17154 euro a kWh applies, 617.54 in place of 782.29
+    // "Toepassingsvoorwaarden van de elektriciteitstarieven", tariff proposal 2019, version of 1 January 2019: 240 kW and 8,900 kWh in a month are 795.43 euro; at 3,600 kWh the ceiling of 0.17154 euro a kWh applies, 617.54 in place of 782.29
     Published {
         bytes: b"\x01\x00\x12\x00\x8d\x9b\x44\x00\x00\x00\x00\x00\x00\x00\xf8\x00\x00\x00\x00\x00\x00\x01\x00\x12\x00\x00\x00\x00\x00\x00\x00\x00\x00\x00\x43\x02\x00\x00\x00\x00\x00\x00\x7f\x00\x00",
         months: 1,
@@ -36,7 +36,7 @@ pub const PUBLISHED: [Published; 11] = [
         cents: 61754,
         cheapest: 1,
     },
-    // the same paper: 35 k_w cost 166.39 euro a month
+    // the same paper: 35 kW cost 166.39 euro a month
     Published {
         bytes: b"\x01\x00\x12\x00\x1e\x77\xa3\x00\x00\x00\x00\x00\x00\x00\x00\x00\x00\x00\x00\x00\x00\x7f\x00\x00",
         months: 1,

@@ -14,9 +14,9 @@ use sheet::Sheet;
 
 // Makes one call. If it is accepted, what it leaves at its number, an account or none, is what a showing of that number tells from then on, whatever postings, showings, refused calls and calls on other numbers come between; and this whatever months were posted and whatever rows the board held before.
 pub fn make_call<B: Board, S: Sheet>(cabinet: &mut Cabinet<B>, call: &Call<S>) -> Answer
-    ensures answer { told result ≡ reply_of (books_of meaning cabinet.old) (asked tariff call.now) }
-    ensures after { books_of meaning cabinet.new ≡ after_of (books_of meaning cabinet.old) (asked tariff call.now) }
-    ensures recalled { Recalled (books_of meaning cabinet.old) (asked tariff call.now) (told result) (books_of meaning cabinet.new) }
+    ensures answer { told result ≡ reply_of (books_of B.meaning cabinet.old) (asked S.tariff call.now) }
+    ensures after { books_of B.meaning cabinet.new ≡ after_of (books_of B.meaning cabinet.old) (asked S.tariff call.now) }
+    ensures recalled { Recalled (books_of B.meaning cabinet.old) (asked S.tariff call.now) (told result) (books_of B.meaning cabinet.new) }
 {
     apply(cabinet, call)
 }

@@ -10,12 +10,12 @@ abbrev pub journal_length : ℕ → ℕ
 journal_length numbers = 131 * (min numbers 4096 + 8)
 
 -- the books of each
-abbrev pub on_table : Pair → Books
-on_table p = books_of table_meaning p.table
+abbrev pub table_books : Pair → Books
+table_books p = books_of table_meaning p.table
 
-abbrev pub on_journal : Pair → Books
-on_journal p = books_of journal_meaning p.journal
+abbrev pub journal_books : Pair → Books
+journal_books p = books_of journal_meaning p.journal
 
 -- both have the same books
 abbrev pub SameBooks : Pair → Type 0
-SameBooks p = on_journal p ≡ on_table p
+SameBooks p = journal_books p ≡ table_books p

@@ -5,10 +5,10 @@ use Rattle.causes.proofs.make_call.Goals as goal
 
 pub returns : goal.returns
 returns g c =
-    let kept = c.make-call.ensures in
+    let kept = c.make_call.ensures in
     record {
       answer = kept.answer;
       after = kept.after;
       recalled = kept.recalled;
-      caused = caused-as (books_of g.B.Board.meaning c.args.cabinet.now) (asked g.S.Sheet.tariff c.args.call.now) (told c.make-call.result) kept.answer;
+      caused = caused-as (books_of g.B.Board.meaning c.args.cabinet.now) (asked g.S.Sheet.tariff c.args.call.now) (told c.make_call.result) kept.answer;
     }

@@ -2,7 +2,7 @@
 ghost use Rattle.std.specs.Prelude.{◌≡◌, ◌&&◌, map, length, is_ok, vec_len, vec_capacity};
 ghost use Rattle.run.specs.Asked.{asked};
 ghost use Rattle.run.specs.Runs.{has_room, replies_behind, replies_given, books_left, LawfulRun};
-ghost use Rattle.twoboards.specs.Pairs.{on_table, SameBooks};
+ghost use Rattle.twoboards.specs.Pairs.{table_books, SameBooks};
 
 use super::Pair;
 use run::{Answer, Call, NoRoom, has_room, run};
@@ -24,11 +24,11 @@ impl Pair {
         on_journal: &mut Vec<Answer>,
     ) -> Result<(), NoRoom>
         ensures made { is_ok result ≡ (has_room (vec_capacity on_table.old) (vec_len on_table.old) (length calls.now) && has_room (vec_capacity on_journal.old) (vec_len on_journal.old) (length calls.now)) }
-        ensures replies { replies_behind (vec_len on_table.old) on_table.new.items ≡ replies_given (is_ok result) (on_table self.old) (map (asked S.tariff) calls.now) }
-        ensures after { on_table self.new ≡ books_left (is_ok result) (on_table self.old) (map (asked S.tariff) calls.now) }
+        ensures replies { replies_behind (vec_len on_table.old) on_table.new.items ≡ replies_given (is_ok result) (table_books self.old) (map (asked S.tariff) calls.now) }
+        ensures after { table_books self.new ≡ books_left (is_ok result) (table_books self.old) (map (asked S.tariff) calls.now) }
         ensures alike { SameBooks self.old → replies_behind (vec_len on_journal.old) on_journal.new.items ≡ replies_behind (vec_len on_table.old) on_table.new.items }
         ensures same { SameBooks self.old → SameBooks self.new }
-        ensures lawful { LawfulRun (on_table self.old) (map (asked S.tariff) calls.now) (replies_behind (vec_len on_table.old) on_table.new.items) (on_table self.new) }
+        ensures lawful { LawfulRun (table_books self.old) (map (asked S.tariff) calls.now) (replies_behind (vec_len on_table.old) on_table.new.items) (table_books self.new) }
     {
         if !has_room(on_journal, calls.len()) {
             return Err(NoRoom);

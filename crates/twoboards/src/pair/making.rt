@@ -5,7 +5,7 @@ ghost use Rattle.table.specs.Tables.{table_meaning};
 ghost use Rattle.journal.specs.Journals.{journal_meaning};
 ghost use Rattle.cabinet.specs.Books.{books_with};
 ghost use Rattle.twoboards.specs.declared.pair.making.NoPair.TheVariants.{Memory as NoMemory};
-ghost use Rattle.twoboards.specs.Pairs.{journal_length, on_table, SameBooks};
+ghost use Rattle.twoboards.specs.Pairs.{journal_length, table_books, SameBooks};
 
 use super::Pair;
 use cabinet::Cabinet;
@@ -72,7 +72,7 @@ fn new_journal(heap: Global, dwellings: u64) -> Result<Journal, NoPair>
 impl Pair {
     // Two new cabinets for so many dwellings, with no month posted and no account, so that their books are the same.
     pub fn new(heap: Global, dwellings: u64) -> Result<Pair, NoPair>
-        ensures { IfOk result (λ p. (on_table p ≡ books_with [] (empty dwellings dwellings)) × SameBooks p) }
+        ensures { IfOk result (λ p. (table_books p ≡ books_with [] (empty dwellings dwellings)) × SameBooks p) }
     {
         if dwellings > MOST {
             return Err(NoPair::Figures);

@@ -8,5 +8,5 @@ use Rattle.scriptlines.proofs.reading.read_line.Goals as goal
 pub returns : goal.returns
 returns c =
     let line = c.args.line.now in
-    let e : said c.line-with.result ≡ line_of line = search rules in
+    let e : said c.line_with.result ≡ line_of line = search rules in
     record { value = e; says = subst (SaidBy (word_of line)) (sym e) (said-by line) }

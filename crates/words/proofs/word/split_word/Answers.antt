@@ -3,5 +3,4 @@ use Rattle.words.specs.Words.{word_of, rest_of}
 use Rattle.words.proofs.word.split_word.Goals as goal
 
 pub returns : goal.returns
-unfolding word_of rest_of
 returns c = search rules

@@ -13,7 +13,4 @@ invariant_of-self c =
     let v = c.run.new.answers in
     let one : length (vec_items v) ≡ 1 =
     one_answer (vec_capacity place.answers) (vec_len place.answers) (books_of board_meaning c.args.cabinet.now) (asked tariff_of c.args.call) (vec_items v) place.room place.free c.run.ensures.replies in
-    let rest = c.pop.new.self in (
-      omega (arith, one, v.ok.0, rest.ok.0, ap length c.pop.ensures.rest, length-take (vec_len v - 1) (vec_items v)),
-      (omega (arith, place.room, c.run.ensures.reserved, c.pop.ensures.capacity), tt),
-    )
+    let rest = c.pop.new.self in record { free = omega (arith, one, v.ok.0, rest.ok.0, ap length c.pop.ensures.rest, length-take (vec_len v - 1) (vec_items v)); room = omega (arith, place.room, c.run.ensures.reserved, c.pop.ensures.capacity) }

@@ -5,7 +5,7 @@ use Rattle.run.specs.Asked.{asked}
 use Rattle.run.specs.Runs.{has_room, replies_behind, replies_given, books_left}
 use Rattle.run.proofs.Reaching.{reached-none, lawful-run}
 use Rattle.run.proofs.Turns.{nothing-behind}
-use Rattle.twoboards.specs.Pairs.{on_table, on_journal}
+use Rattle.twoboards.specs.Pairs.{table_books, journal_books}
 use Rattle.twoboards.proofs.pair.Pair.run.Goals as goal
 
 not-both : (a b : Bool) → b ≡ false → (a && b) ≡ false
@@ -21,7 +21,7 @@ returns-then-not-has_room g c =
     let n : ℕ = length c.args.calls.now in
     let t = c.args.on_table.now in
     let j = c.args.on_journal.now in
-    let b = on_table c.args.self.now in
+    let b = table_books c.args.self.now in
     let asks = map (asked g.S.Sheet.tariff) c.args.calls.now in
     let none : has_room (vec_capacity j) (vec_len j) n ≡ false = sym c.has_room.ensures ∙ c.if-not-has_room.true in
     let nothing-table = nothing-behind (vec_len t) (vec_items t) (search rules) in
@@ -40,7 +40,7 @@ returns-in_err-run g c =
     let n : ℕ = length c.args.calls.now in
     let t = c.args.on_table.now in
     let j = c.args.on_journal.now in
-    let b = on_table c.args.self.now in
+    let b = table_books c.args.self.now in
     let asks = map (asked g.S.Sheet.tariff) c.args.calls.now in
     let none : has_room (vec_capacity t) (vec_len t) n ≡ false = sym c.in_err-run.ensures.made in
     let refused = not-ok c.from_residual.result c.from_residual.ensures.0 in
@@ -58,8 +58,8 @@ returns g c =
     let n : ℕ = length c.args.calls.now in
     let t = c.args.on_table.now in
     let j = c.args.on_journal.now in
-    let b = on_table c.args.self.now in
-    let d = on_journal c.args.self.now in
+    let b = table_books c.args.self.now in
+    let d = journal_books c.args.self.now in
     let asks = map (asked g.S.Sheet.tariff) c.args.calls.now in
     let first : has_room (vec_capacity t) (vec_len t) n ≡ true = sym c.in_ok-run.ensures.made in
     let second : has_room (vec_capacity j) (vec_len j) n ≡ true = sym c.has_room.ensures ∙ c.if-not-has_room.false in
