@@ -1,5 +1,5 @@
 -- What is made of numbers keeps the limits.
-use Rattle.std.proofs.Common.{◌≡◌, ℕ, ◌<◌, ◌≤◌, Bool, true, false, cond, ◌&&◌, leb, List, map, length, get_or, Some, None, Ok, Err, Option, Result, sym, refl, ap, ◌∙◌, subst, arith}
+use Rattle.std.proofs.Common.{◌≡◌, ℕ, ◌≤◌, true, false, cond, ◌&&◌, leb, List, map, length, get_or, Some, None, Ok, Err, Option, Result, sym, refl, ap, ◌∙◌, subst, arith}
 use Rattle.std.proofs.lemmas.List.FromFn.{length-map-range_with_len, get_or-map-range_with_len}
 use Rattle.std.proofs.lemmas.Bool.Decides.{nat_tests}
 use Rattle.std.specs.List.{range_with_len}
@@ -27,7 +27,7 @@ use Rattle.account.specs.Registers.{kind_of, figure_fits, register_fits, Registe
 use Rattle.account.specs.Balances.{balance_fits}
 use Rattle.account.specs.Tenancy.{Tenancy}
 use Rattle.account.specs.Kept.{ProfileKept, Kept}
-use Rattle.account.specs.Forms.{figures_made, registers_made, profile_known, account_made}
+use Rattle.account.specs.Forms.{figures_made, profile_known, account_made}
 
 powers-kept : (p x : ℕ) → powers_fit p x ≡ true → Powers p x
 powers-kept p x h = (grind (arith, nat_tests), grind (arith, nat_tests), grind (arith, nat_tests))

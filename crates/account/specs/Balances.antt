@@ -1,5 +1,5 @@
 -- Balances, in cents.
-use Rattle.std.specs.Prelude.{ℕ, Bool, false, ◌&&◌, ℤ, pos, negsuc, ◌==◌, int_le}
+use Rattle.std.specs.Prelude.{Bool, false, ◌&&◌, ℤ, pos, negsuc, ◌==◌, int_le}
 
 -- within 10^12 of 0
 abbrev pub balance_fits : ℤ → Bool

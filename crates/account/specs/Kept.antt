@@ -1,5 +1,5 @@
 -- What every account keeps.
-use Rattle.std.specs.Prelude.{◌≡◌, ℕ, ◌≤◌, true, length, Some, None, Option}
+use Rattle.std.specs.Prelude.{◌≡◌, ◌≤◌, true, length, Some, None, Option}
 use Rattle.facts.specs.Limits.{Powers, may_have}
 use Rattle.facts.specs.Usage.{Dwelling}
 use Rattle.account.specs.declared.figure.Figure.TheVariants.{Index, Waiting}

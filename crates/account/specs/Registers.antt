@@ -5,7 +5,6 @@ use Rattle.common.specs.Counts.{all_to}
 use Rattle.facts.specs.declared.kind.Kind.{Kind}
 use Rattle.facts.specs.declared.kind.Kind.TheVariants.{Unused, General, NightReserved, Interruptible}
 use Rattle.facts.specs.Limits.{kwh_fits}
-use Rattle.account.specs.declared.state.State.{State}
 use Rattle.account.specs.declared.state.State.TheVariants.{Vacant, Running, Ready}
 use Rattle.account.specs.declared.figure.Figure.{Figure}
 use Rattle.account.specs.declared.figure.Figure.TheVariants.{Index, Waiting}

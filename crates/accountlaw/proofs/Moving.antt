@@ -12,7 +12,7 @@ use Rattle.account.specs.Registers.{register_size, kind_of, difference, register
 use Rattle.account.specs.Tenancy.{Tenancy}
 use Rattle.account.specs.Steps.{joined, join_fits}
 use Rattle.accountlaw.specs.Moves.{Read, Settled, Paid, Readings-join, Settlements-book, Payments-lower}
-use Rattle.accountlaw.proofs.Accepted.{Taken, Booked, Credited, reading-accepted, settlement-accepted, payment-accepted}
+use Rattle.accountlaw.proofs.Accepted.{Taken, reading-accepted, settlement-accepted, payment-accepted}
 
 most-of : (t : Tenancy) (xs : List ℕ) (i : ℕ) → join_fits t xs i ≡ true → joined t xs i ≤ 100000
 most-of t xs i h = grind (arith, nat_tests)

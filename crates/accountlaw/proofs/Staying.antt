@@ -3,16 +3,14 @@ use Rattle.std.proofs.Common.{◌≡◌, ℕ, ◌<◌, ◌≤◌, true, List, le
 use Rattle.std.proofs.lemmas.List.FromFn.{length-map-range_with_len, get_or-map-range_with_len}
 use Rattle.common.specs.Outcomes.{chained}
 use Rattle.common.proofs.Counted.{all_to-at}
-use Rattle.common.proofs.Outcomes.{err-not-ok, chained-ok}
+use Rattle.common.proofs.Outcomes.{err-not-ok}
 use Rattle.facts.specs.Limits.{kwh_fits}
 use Rattle.facts.specs.Forms.{made}
-use Rattle.account.specs.declared.event.Event.{Event}
 use Rattle.account.specs.declared.event.Event.TheVariants.{Open, Read, Settle, Pay, Close}
 use Rattle.account.specs.declared.event.OpeningForm.{OpeningForm}
 use Rattle.account.specs.declared.fault.AccountFault.{AccountFault}
 use Rattle.account.specs.declared.fault.AccountFault.TheVariants.{Vacant}
 use Rattle.account.specs.declared.figure.Figure.TheVariants.{Index, Waiting}
-use Rattle.account.specs.declared.state.State.TheVariants.{Running, Ready}
 use Rattle.account.specs.Registers.{kind_of, register_fits, RegisterLimits}
 use Rattle.account.specs.Balances.{balance_fits}
 use Rattle.account.specs.Tenancy.{Tenancy}

@@ -2,7 +2,7 @@
 use Rattle.std.proofs.Common.{◌≡◌, ℕ, ◌^◌, ◌<◌, false, cond, leb, List, [], ◌∷◌, ◌++◌, Some, None, codes, decimal, sym, refl, ap, ◌∙◌, arith}
 use Rattle.std.specs.Option.{option_map}
 use Rattle.std.proofs.lemmas.Bool.{cond-true, le-leb}
-use Rattle.words.specs.Words.{is_word, word_of, rest_of}
+use Rattle.words.specs.Words.{is_word}
 use Rattle.words.specs.Numbers.{is_end}
 use Rattle.answers.specs.declared.answer.Answer.TheVariants.{Tenths, Lines, Parts, NotPermitted, Plan, NoPlan, Made, Posted, Done, Bill, Account, Vacant, Row, Refused, Unreadable, NoMemory}
 use Rattle.answers.specs.Bills.{bill_numbers}

@@ -1,9 +1,9 @@
 -- The answer of a run of one call.
-use Rattle.std.proofs.Common.{◌≡◌, ℕ, ◌-◌, ◌≤◌, true, leb, List, [], ◌∷◌, map, length, drop, sym, ap, ◌∙◌, arith}
+use Rattle.std.proofs.Common.{◌≡◌, ℕ, ◌-◌, ◌≤◌, true, List, [], ◌∷◌, length, drop, ap, ◌∙◌, arith}
 use Rattle.std.proofs.lemmas.List.{length-map, length-drop}
 use Rattle.std.proofs.lemmas.Bool.{le-leb}
 use Rattle.cabinet.specs.Books.{Books}
-use Rattle.law.specs.Transcript.{Call, Reply, reply_of}
+use Rattle.law.specs.Transcript.{Call, reply_of}
 use Rattle.run.specs.declared.answer.Answer.{Answer}
 use Rattle.run.specs.Asked.{told}
 use Rattle.run.specs.Runs.{has_room, replies_behind, replies_given}

@@ -1,5 +1,5 @@
 -- What a cabinet means, and what each call answers and leaves.
-use Rattle.std.specs.Prelude.{ℕ, ◌+◌, Bool, cond, List, length, Some, None, Ok, Err, Option, Result, nat_lt}
+use Rattle.std.specs.Prelude.{ℕ, Bool, cond, List, length, Some, None, Ok, Err, Option, Result, nat_lt}
 use Rattle.common.specs.Outcomes.{chained}
 use Rattle.facts.specs.Forms.{made}
 use Rattle.facts.specs.Usage.{Usage}

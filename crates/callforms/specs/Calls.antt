@@ -1,5 +1,5 @@
 -- The calls on a cabinet that lines ask for, by what stands behind their first word.
-use Rattle.std.specs.Prelude.{ℕ, Bool, true, false, cond, List, length, Some, None, Option, ◌==◌, slice_index}
+use Rattle.std.specs.Prelude.{ℕ, Bool, cond, List, length, Some, None, Option, ◌==◌, slice_index}
 use Rattle.std.specs.Option.{option_map}
 use Rattle.account.specs.declared.event.OpeningForm.{OpeningForm}
 use Rattle.run.specs.declared.call.Call.{Call}

@@ -1,5 +1,5 @@
 -- What is known of a test, an option or a result that came out well.
-use Rattle.std.proofs.Common.{◌≡◌, ℕ, Bool, true, false, cond, ◌&&◌, Some, None, Ok, Err, Option, Result, refl, arith}
+use Rattle.std.proofs.Common.{◌≡◌, ℕ, Bool, true, false, cond, ◌&&◌, Some, None, Ok, Err, Result, refl, arith}
 use Rattle.common.specs.Outcomes.{chained}
 
 -- a fault is no value

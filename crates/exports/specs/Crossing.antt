@@ -1,5 +1,4 @@
 -- The structs that a caller hands in and gets back, as the pricing has them.
-use Rattle.std.specs.Prelude.{ℕ}
 use Rattle.figures.specs.Sums.{sum_of_ne, sum_of_nc}
 use Rattle.facts.specs.declared.form.FactsForm.{FactsForm}
 use Rattle.sheet.specs.declared.plan.Plan.{Plan}

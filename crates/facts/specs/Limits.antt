@@ -1,5 +1,5 @@
 -- The limits of a profile and of a period's facts.
-use Rattle.std.specs.Prelude.{◌≡◌, ℕ, ◌*◌, ◌<◌, ◌≤◌, Bool, true, false, not, List, ◌==◌, nat_le, slice_index, slice_index_or}
+use Rattle.std.specs.Prelude.{◌≡◌, ℕ, ◌*◌, ◌<◌, ◌≤◌, Bool, true, not, List, ◌==◌, nat_le, slice_index, slice_index_or}
 use Rattle.facts.specs.declared.kind.Class.{Class}
 use Rattle.facts.specs.declared.kind.Class.TheVariants.{Residential, Professional}
 use Rattle.facts.specs.declared.kind.Kind.{Kind}

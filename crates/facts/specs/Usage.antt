@@ -1,5 +1,5 @@
 -- Profiles and facts as plain figures, which definitions of prices go by.
-use Rattle.std.specs.Prelude.{◌≡◌, ℕ, Bool, true, List}
+use Rattle.std.specs.Prelude.{◌≡◌, ℕ, true, List}
 use Rattle.facts.specs.declared.kind.Class.{Class}
 use Rattle.facts.specs.declared.kind.Kind.{Kind}
 use Rattle.facts.specs.declared.kind.Marks.{Marks}

@@ -1,14 +1,13 @@
 -- An accepted settlement: its bill is right.
-use Rattle.std.proofs.Common.{◌≡◌, ℕ, ◌+◌, ◌<◌, ◌≤◌, Bool, true, false, cond, ltb, List, [], ◌∷◌, map, length, get_or, Some, None, Ok, Err, Option, Result, sym, refl, ap, ◌∙◌, subst, arith}
+use Rattle.std.proofs.Common.{◌≡◌, ℕ, ◌<◌, ◌≤◌, ltb, List, [], map, length, get_or, Some, None, Ok, Option, sym, refl, ◌∙◌, subst, arith}
 use Rattle.std.proofs.lemmas.List.FromFn.{length-map-range_with_len, get_or-map-range_with_len, fill_by_all}
 use Rattle.std.proofs.lemmas.Bool.Decides.{nat_tests}
 use Rattle.std.specs.List.{range_with_len}
 use Rattle.std.specs.Option.{option_map}
-use Rattle.common.specs.Counts.{sum_to}
-use Rattle.common.proofs.Outcomes.{err-not-ok, ok-if, chained-ok}
+use Rattle.common.proofs.Outcomes.{err-not-ok, ok-if}
 use Rattle.facts.specs.Usage.{Usage}
 use Rattle.sheet.specs.declared.plan.Plan.{Plan}
-use Rattle.sheet.specs.Tariff.{Tariff, prices_of, plan_of, price}
+use Rattle.sheet.specs.Tariff.{Tariff, prices_of, plan_of}
 use Rattle.sheet.specs.Choice.{Best, cheapest_of, chosen}
 use Rattle.sheet.proofs.Bests.{best-is}
 use Rattle.account.specs.declared.hours.Hours.{Hours}
@@ -19,13 +18,11 @@ use Rattle.account.specs.Tenancy.{Tenancy}
 use Rattle.account.specs.Waiting.{kwh_on as waits_on, waiting_on, waiting_in_all}
 use Rattle.account.proofs.Kwh.{register-below}
 use Rattle.months.specs.Posted.{ne_sum_of, nc_sum_of}
-use Rattle.cabinet.specs.declared.bill.Bill.{Bill}
-use Rattle.cabinet.specs.declared.fault.CabinetFault.{CabinetFault}
 use Rattle.cabinet.specs.declared.fault.CabinetFault.TheVariants.{NotPosted, NoPlan}
 use Rattle.cabinet.specs.Settling.{bill_of}
 use Rattle.cabinet.specs.Books.{usage_at, planned, priced}
 use Rattle.law.specs.History.{Deed, Opened, unsettled, next_month, period_of, account_in}
-use Rattle.law.specs.Law.{together, Permits, RightBill}
+use Rattle.law.specs.Law.{together, RightBill}
 use Rattle.law.proofs.Twelve.{at-twelve, sum_same}
 
 planned-ok : (n : ℕ) (o : Option Plan) (p : Plan) → planned n o ≡ Ok p → o ≡ Some p

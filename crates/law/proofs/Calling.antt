@@ -1,19 +1,17 @@
 -- Calls on one account: refused with nothing moved, or accepted with its row set.
-use Rattle.std.proofs.Common.{◌≡◌, ℕ, ◌<◌, Bool, true, false, cond, ◌⊎◌, List, [], ◌∷◌, length, Some, None, Ok, Err, Option, Result, sym, refl, ap, ◌∙◌, subst, inl, inr, ⊎_elim, arith}
+use Rattle.std.proofs.Common.{◌≡◌, ℕ, ◌<◌, true, ◌⊎◌, [], ◌∷◌, length, Some, None, Ok, Err, Option, Result, sym, refl, ap, ◌∙◌, ⊎_elim, arith}
 use Rattle.std.proofs.lemmas.Bool.Decides.{nat_tests}
 use Rattle.std.specs.Option.{option_map}
 use Rattle.common.specs.Outcomes.{chained}
 use Rattle.common.proofs.Outcomes.{chained-ok}
-use Rattle.board.specs.Meaning.{BoardMeaning, Row, row_at, inside, with_row}
+use Rattle.board.specs.Meaning.{Row, row_at, inside, with_row}
 use Rattle.account.specs.declared.event.Event.{Event}
-use Rattle.account.specs.declared.fault.AccountFault.{AccountFault}
 use Rattle.account.specs.Tenancy.{Tenancy}
 use Rattle.account.specs.Steps.{stepped}
 use Rattle.row.specs.Rows.{row_of}
 use Rattle.ledger.specs.declared.fault.LedgerFault.{LedgerFault}
 use Rattle.ledger.specs.Calls.{named, load_answer, next_at, keep_answer, kept_after}
 use Rattle.cabinet.specs.Faults.{cabinet_refusal}
-use Rattle.cabinet.specs.declared.fault.CabinetFault.{CabinetFault}
 use Rattle.cabinet.specs.declared.fault.CabinetFault.TheVariants.{Ledger}
 use Rattle.cabinet.specs.Books.{Books, books_with, raised, done_answer, done_after}
 use Rattle.law.specs.Transcript.{Call, Reply, done, refusal, done_reply, Transcript}

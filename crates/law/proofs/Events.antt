@@ -1,12 +1,10 @@
 -- What an accepted opening, reading, payment and closing make of a history.
-use Rattle.std.proofs.Common.{◌≡◌, ℕ, Bool, true, false, cond, eqb, List, [], ◌∷◌, Some, None, Ok, Err, Option, sym, refl, ap, ◌∙◌, subst}
+use Rattle.std.proofs.Common.{◌≡◌, ℕ, Bool, cond, eqb, List, [], ◌∷◌, Some, None, Ok, Option, sym, refl, ap, ◌∙◌, subst}
 use Rattle.std.proofs.lemmas.Bool.{eq-eqb, ne_eqb}
 use Rattle.std.specs.Option.{option_map}
 use Rattle.common.specs.Outcomes.{chained}
 use Rattle.common.proofs.Outcomes.{err-not-ok}
-use Rattle.facts.specs.Forms.{made}
 use Rattle.account.specs.declared.event.OpeningForm.{OpeningForm}
-use Rattle.account.specs.declared.event.Event.{Event}
 use Rattle.account.specs.declared.event.Event.TheVariants.{Open, Read, Pay, Close}
 use Rattle.account.specs.Kept.{Kept, KeptAt}
 use Rattle.account.specs.Tenancy.{Tenancy}
@@ -15,8 +13,8 @@ use Rattle.accountlaw.proofs.Accepted.{opening-accepted, reading-accepted, payme
 use Rattle.accountlaw.proofs.Staying.{steps-keep-limits}
 use Rattle.row.specs.Rows.{row_of}
 use Rattle.row.proofs.Inverse.{written_back}
-use Rattle.law.specs.Transcript.{Call, opening, reading, paying, closing, done, Transcript}
-use Rattle.law.specs.History.{Deed, reads, pays, Opened, History, since, moved, months_in, started, started_with, with_deed, account_in, account_since}
+use Rattle.law.specs.Transcript.{opening, reading, paying, closing, done, Transcript}
+use Rattle.law.specs.History.{reads, pays, History, since, started, started_with, with_deed, account_since}
 use Rattle.law.proofs.Growing.{opened_by, opened-is, read_is, pay-is}
 use Rattle.law.proofs.Fairness.{fair-opened, fair-read, fair-paid}
 use Rattle.law.proofs.Loading.{made_ok}

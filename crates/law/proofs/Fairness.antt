@@ -1,18 +1,15 @@
 -- What holds of an open account, one deed more.
-use Rattle.std.proofs.Common.{◌≡◌, ℕ, ◌+◌, ◌*◌, ◌<◌, ◌≤◌, List, [], ◌∷◌, length, get_or, Ok, sym, refl, ap, ◌∙◌, subst, arith}
+use Rattle.std.proofs.Common.{◌≡◌, ℕ, ◌+◌, ◌*◌, ◌<◌, ◌≤◌, List, [], ◌∷◌, length, get_or, sym, refl, subst, arith}
 use Rattle.common.specs.Counts.{sum_to}
-use Rattle.sheet.specs.Tariff.{Tariff, price, cents_of}
+use Rattle.sheet.specs.Tariff.{Tariff, price}
 use Rattle.account.specs.declared.hours.Hours.{Hours}
-use Rattle.account.specs.declared.hours.Hours.TheVariants.{Day, Night}
 use Rattle.account.specs.Registers.{register_of}
-use Rattle.account.specs.Tenancy.{Tenancy}
 use Rattle.account.specs.Waiting.{waiting_in_all}
 use Rattle.account.specs.Kept.{Kept}
 use Rattle.account.proofs.Kwh.{register-below}
-use Rattle.row.specs.Rows.{row_of, account_of}
 use Rattle.row.proofs.Inverse.{read_back}
 use Rattle.cabinet.specs.declared.bill.Bill.{Bill}
-use Rattle.law.specs.History.{Deed, reads, settles, pays, Opened, unsettled, kwh_of, kwh_on, charged_in, read_in, billed_in, period_of, next_month, account_in}
+use Rattle.law.specs.History.{Deed, reads, settles, pays, Opened, unsettled, kwh_of, kwh_on, charged_in, period_of, next_month, account_in}
 use Rattle.facts.specs.Usage.{Usage}
 use Rattle.law.specs.Law.{Least, LeastSum, opened, read, paid, settled, PlanSum, at-opening, over-reading, over-payment, over-period, RightBill, Fair}
 use Rattle.law.proofs.Twelve.{at-twelve, sum_same, sum_both}

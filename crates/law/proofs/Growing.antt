@@ -7,7 +7,6 @@ use Rattle.facts.specs.Usage.{Dwelling}
 use Rattle.sheet.specs.Tariff.{Tariff}
 use Rattle.account.specs.declared.event.OpeningForm.{OpeningForm}
 use Rattle.account.specs.declared.figure.Figure.TheVariants.{Index}
-use Rattle.account.specs.declared.state.State.{State}
 use Rattle.account.specs.Registers.{register_fits, register_size, kind_of, difference, twelve}
 use Rattle.account.specs.Tenancy.{Tenancy}
 use Rattle.account.specs.Steps.{counted, joined}

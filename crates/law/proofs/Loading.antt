@@ -1,9 +1,8 @@
 -- What stands at a number of a board, and what a call on it leaves.
-use Rattle.std.proofs.Common.{◌≡◌, ℕ, Bool, true, false, cond, ◌⊎◌, List, Some, None, Ok, Err, Option, Result, sym, refl, ap, ◌∙◌, inl, inr, ⊎_elim}
+use Rattle.std.proofs.Common.{◌≡◌, ℕ, Bool, true, false, cond, ◌⊎◌, Some, None, Ok, Err, Option, Result, sym, refl, ap, ◌∙◌, inl, inr, ⊎_elim}
 use Rattle.std.proofs.lemmas.Bool.{cases_Bool}
 use Rattle.std.specs.Option.{option_map}
-use Rattle.common.specs.Outcomes.{chained}
-use Rattle.common.proofs.Outcomes.{err-not-ok, chained-ok}
+use Rattle.common.proofs.Outcomes.{err-not-ok}
 use Rattle.facts.specs.Forms.{made}
 use Rattle.board.specs.declared.fault.BoardFault.TheVariants.{Outside, Full}
 use Rattle.board.specs.Meaning.{BoardMeaning, Row, inside, full, row_at, with_row, store_answer, stored}

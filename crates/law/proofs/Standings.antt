@@ -1,11 +1,9 @@
 -- The law stands after every call, and so after every transcript.
-use Rattle.std.proofs.Common.{◌≡◌, ℕ, ◌<◌, ◌≤◌, Bool, true, false, cond, leb, ◌⊎◌, List, [], ◌∷◌, ◌++◌, length, Some, None, Ok, Err, Option, Result, sym, refl, ap, ◌∙◌, subst, inl, inr, ⊎_elim, append-nil, arith}
-use Rattle.std.proofs.lemmas.Bool.{cases_Bool}
+use Rattle.std.proofs.Common.{◌≡◌, ℕ, ◌<◌, Bool, true, false, cond, leb, ◌⊎◌, List, [], ◌∷◌, ◌++◌, length, Some, None, Ok, Err, Option, Result, sym, refl, ap, ◌∙◌, subst, ⊎_elim, append-nil, arith}
 use Rattle.std.specs.Option.{option_map}
-use Rattle.common.specs.Outcomes.{chained}
 use Rattle.common.proofs.Outcomes.{err-not-ok, some-if, chained-ok}
 use Rattle.facts.specs.Forms.{made}
-use Rattle.figures.specs.Months.{index_fits, figure_fits, non_fuel, month_of}
+use Rattle.figures.specs.Months.{non_fuel, month_of}
 use Rattle.sheet.specs.declared.plan.Plan.{Plan}
 use Rattle.sheet.specs.Tariff.{Tariff}
 use Rattle.board.specs.declared.fault.BoardFault.TheVariants.{Outside}
@@ -15,27 +13,27 @@ use Rattle.account.specs.declared.fault.AccountFault.TheVariants.{Vacant}
 use Rattle.account.specs.declared.hours.Hours.{Hours}
 use Rattle.account.specs.declared.hours.Hours.TheVariants.{Day, Night}
 use Rattle.account.specs.Kept.{Kept}
-use Rattle.account.specs.Steps.{months_to, months_from, settled}
+use Rattle.account.specs.Steps.{months_to, settled}
 use Rattle.account.specs.Tenancy.{Tenancy}
 use Rattle.account.specs.Waiting.{waiting_in_all}
 use Rattle.accountlaw.proofs.Accepted.{settlement-accepted}
 use Rattle.accountlaw.proofs.Staying.{steps-keep-limits}
 use Rattle.row.specs.Rows.{row_of}
 use Rattle.months.specs.declared.fault.PostFault.TheVariants.{AllPosted, OutsideLimits}
-use Rattle.months.specs.Posted.{post_answer, post_after, posted_as, with_month}
+use Rattle.months.specs.Posted.{posted_as, with_month}
 use Rattle.ledger.specs.declared.fault.LedgerFault.{LedgerFault}
 use Rattle.ledger.specs.declared.fault.LedgerFault.TheVariants.{Board, Account}
 use Rattle.ledger.specs.Faults.{ledger_refusal}
-use Rattle.ledger.specs.Calls.{named, load_answer, keep_answer, keep_after, due_at, due_answer, booked_at}
+use Rattle.ledger.specs.Calls.{load_answer, due_at, due_answer, booked_at}
 use Rattle.cabinet.specs.declared.bill.Bill.{Bill}
 use Rattle.cabinet.specs.declared.fault.CabinetFault.{CabinetFault}
 use Rattle.cabinet.specs.declared.fault.CabinetFault.TheVariants.{Ledger, Post}
 use Rattle.cabinet.specs.Faults.{cabinet_refusal}
 use Rattle.cabinet.specs.Settling.{bill_of}
-use Rattle.cabinet.specs.Books.{Books, books_with, raised, raised_post, priced, billed as booked, settle_next, bill_answer, bill_after, settled_at, settle_answer, settle_after, usage_at}
-use Rattle.law.specs.Transcript.{Call, posting, opening, reading, settling, paying, closing, showing, Reply, posted, done, billed, shown, vacant, refusal, Transcript, post_reply, bill_reply, show_reply, reply_of, after_of, New, Reached, start, more}
-use Rattle.law.specs.History.{settles, History, since, moved, months_in, with_deed, with_bill, next_month, period_of, kwh_on, account_in, account_since}
-use Rattle.law.specs.Law.{RightBill, Law, Law-stands}
+use Rattle.cabinet.specs.Books.{Books, books_with, raised, raised_post, priced, billed as booked, settle_next, bill_answer, bill_after, settled_at, settle_answer, settle_after}
+use Rattle.law.specs.Transcript.{Call, posting, opening, reading, settling, paying, closing, showing, posted, billed, refusal, Transcript, post_reply, bill_reply, show_reply, reply_of, after_of, New, Reached, start, more}
+use Rattle.law.specs.History.{settles, History, since, months_in, with_deed, with_bill, period_of, kwh_on, account_since}
+use Rattle.law.specs.Law.{RightBill, Law-stands}
 use Rattle.law.proofs.Growing.{settle_is}
 use Rattle.law.proofs.Fairness.{fair-settled}
 use Rattle.law.proofs.Loading.{named_ok, made_ok, load-outside, load_inside, keep-cases}

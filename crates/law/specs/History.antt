@@ -1,5 +1,5 @@
 -- What was done to an account since its last opening, and what it adds up to.
-use Rattle.std.specs.Prelude.{ℕ, ◌+◌, Bool, cond, List, [], ◌∷◌, ◌++◌, map, pos, ◌-ℤ◌, Some, None, Ok, Err, Option, Result, ◌==◌, slice_index}
+use Rattle.std.specs.Prelude.{ℕ, ◌+◌, cond, List, [], ◌∷◌, ◌++◌, map, pos, ◌-ℤ◌, Some, None, Ok, Err, Option, Result, ◌==◌, slice_index}
 use Rattle.std.specs.List.{range_with_len}
 use Rattle.common.specs.Counts.{sum_to}
 use Rattle.facts.specs.declared.form.FactsFault.{FactsFault}

@@ -1,19 +1,17 @@
 -- The law over every run of calls.
 use Rattle.std.specs.Prelude.{◌≡◌, ℕ, ◌+◌, ◌<◌, ◌≤◌, true, List, [], ◌∷◌, length, Some, None, Ok, Option, slice_index}
 use Rattle.std.specs.Option.{option_map}
-use Rattle.refusal.specs.declared.Refusal.{Refusal}
 use Rattle.common.specs.Counts.{sum_to}
 use Rattle.facts.specs.Usage.{Usage}
 use Rattle.sheet.specs.Tariff.{Tariff, price, cents_of}
-use Rattle.board.specs.Meaning.{Row, row_at}
+use Rattle.board.specs.Meaning.{row_at}
 use Rattle.account.specs.declared.hours.Hours.{Hours}
-use Rattle.account.specs.Tenancy.{Tenancy}
 use Rattle.account.specs.Waiting.{waiting_in_all}
 use Rattle.row.specs.Rows.{row_of, account_of}
 use Rattle.cabinet.specs.declared.bill.Bill.{Bill}
 use Rattle.cabinet.specs.Books.{Books}
 use Rattle.law.specs.Transcript.{Call, posting, opening, reading, settling, paying, closing, showing, Reply, posted, done, billed, shown, vacant, refusal, Transcript, Reached}
-use Rattle.law.specs.History.{Deed, reads, settles, pays, Opened, History, since, months_in, period_of, next_month, charged_in, paid_in, read_in, billed_in, account_in, account_since}
+use Rattle.law.specs.History.{Deed, reads, settles, pays, Opened, History, since, months_in, period_of, next_month, charged_in, read_in, billed_in, account_in, account_since}
 
 -- the kWh of six circuits together
 abbrev pub together : List ℕ → ℕ

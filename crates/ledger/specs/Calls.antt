@@ -1,5 +1,5 @@
 -- What a call on one account answers, and what the board means afterwards: its row is read once, and stored or cleared at most once.
-use Rattle.std.specs.Prelude.{ℕ, Bool, true, false, List, replicate, is_some, Some, None, Ok, Err, Option, Result}
+use Rattle.std.specs.Prelude.{ℕ, Bool, true, false, replicate, is_some, Some, None, Ok, Err, Option, Result}
 use Rattle.common.specs.Outcomes.{chained}
 use Rattle.facts.specs.Forms.{made}
 use Rattle.board.specs.declared.fault.BoardFault.{BoardFault}

@@ -1,5 +1,5 @@
 -- Months as they are posted, and the sums of their figures.
-use Rattle.std.specs.Prelude.{ℕ, ◌+◌, ◌*◌, ◌≤◌, Bool, cond, List, [], ◌∷◌, ◌++◌, map, length, Some, None, Ok, Err, vec_items, Option, Result, nat_le, slice_index_or}
+use Rattle.std.specs.Prelude.{ℕ, ◌+◌, ◌*◌, ◌≤◌, cond, List, [], ◌∷◌, ◌++◌, map, length, Some, None, Ok, Err, vec_items, Option, Result, nat_le, slice_index_or}
 use Rattle.common.specs.Counts.{sum_to}
 use Rattle.figures.specs.Months.{month_of}
 use Rattle.figures.specs.declared.sums.NeSum.{NeSum}

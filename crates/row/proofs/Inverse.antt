@@ -6,7 +6,7 @@ use Rattle.account.specs.declared.fault.AccountFault.{AccountFault}
 use Rattle.account.specs.declared.fault.AccountFault.TheVariants.{BrokenRow}
 use Rattle.account.specs.Tenancy.{Tenancy}
 use Rattle.account.specs.Kept.{Kept}
-use Rattle.account.specs.Forms.{account_made, form_of}
+use Rattle.account.specs.Forms.{account_made}
 use Rattle.account.proofs.Remaking.{account-remade}
 use Rattle.account.proofs.Keeping.{account-keeps, account-broken}
 use Rattle.row.specs.Rows.{row_of, form_at, same_bytes, if_row, account_of}

@@ -9,7 +9,7 @@ use Rattle.std.specs.List.{flat_map}
 use Rattle.facts.specs.declared.kind.Kind.{Kind}
 use Rattle.facts.specs.declared.kind.Kind.TheVariants.{Unused, General, NightReserved, Interruptible}
 use Rattle.facts.specs.Numbers.{kind_number}
-use Rattle.account.specs.declared.figure.Figure.TheVariants.{Index, Waiting}
+use Rattle.account.specs.declared.figure.Figure.TheVariants.{Index}
 use Rattle.account.specs.Registers.{register_size, kind_of, RegisterLimits}
 use Rattle.account.specs.Balances.{balance_fits}
 use Rattle.account.specs.Tenancy.{Tenancy}

@@ -1,6 +1,5 @@
 -- Accounts and rows: each account has one row, and each row that is read is one account's.
 use Rattle.std.specs.Prelude.{◌≡◌, ℕ, List, Ok, Err, Result, ◌≢◌}
-use Rattle.account.specs.declared.account.Account.{Account}
 use Rattle.account.specs.declared.fault.AccountFault.{AccountFault}
 use Rattle.account.specs.declared.fault.AccountFault.TheVariants.{BrokenRow}
 use Rattle.account.specs.Tenancy.{Tenancy}

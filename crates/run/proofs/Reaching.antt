@@ -1,5 +1,5 @@
 -- A transcript that a new cabinet came to goes on by the calls of a run.
-use Rattle.std.proofs.Common.{◌≡◌, List, [], ◌∷◌, sym, ap, subst}
+use Rattle.std.proofs.Common.{◌≡◌, List, [], ◌∷◌, sym, subst}
 use Rattle.cabinet.specs.Books.{Books}
 use Rattle.law.specs.Transcript.{Call, Reply, Transcript, Reached, more, reply_of, after_of}
 use Rattle.law.specs.Law.{Law-stands}

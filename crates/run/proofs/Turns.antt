@@ -1,5 +1,5 @@
 -- Calls made one after the other, with the answers behind what their place held.
-use Rattle.std.proofs.Common.{◌≡◌, ℕ, ◌+◌, ◌<◌, ◌≤◌, true, false, cond, List, [], ◌∷◌, ◌++◌, map, length, get_or, take, drop, sym, refl, ap, ◌∙◌, arith}
+use Rattle.std.proofs.Common.{◌≡◌, ℕ, ◌+◌, ◌<◌, ◌≤◌, List, [], ◌∷◌, ◌++◌, map, length, get_or, take, drop, sym, refl, ap, ◌∙◌, arith}
 use Rattle.std.proofs.lemmas.List.{at_drop_more, at_drop_all, append_assoc, append-nil, map-append, take-append-le, drop-append-le, length-append, take_all, drop_all}
 use Rattle.cabinet.specs.Books.{Books}
 use Rattle.law.specs.Transcript.{Call, Reply, reply_of, after_of}

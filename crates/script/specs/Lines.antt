@@ -1,5 +1,5 @@
 -- What the lines of a script ask for.
-use Rattle.std.specs.Prelude.{ℕ, ◌+◌, Bool, true, false, cond, ◌&&◌, ◌||◌, List, [], ◌∷◌, length, Some, None, codes, Option, ◌==◌, slice_index}
+use Rattle.std.specs.Prelude.{ℕ, ◌+◌, cond, ◌&&◌, ◌||◌, List, [], ◌∷◌, length, Some, None, codes, Option, ◌==◌, slice_index}
 use Rattle.std.specs.Borrow.{Bor}
 use Rattle.figures.specs.Sums.{sum_of_ne, sum_of_nc}
 use Rattle.facts.specs.declared.form.ProfileForm.{ProfileForm}

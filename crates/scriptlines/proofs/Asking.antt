@@ -17,10 +17,9 @@ use Rattle.lineforms.specs.Verbs.{verb_name, verb_of, Says}
 use Rattle.lineforms.proofs.Saying.{says}
 use Rattle.callforms.specs.Boards.{board_in}
 use Rattle.callforms.specs.Calls.{account_in, call_in}
-use Rattle.callforms.specs.Saying.{call_verb}
 use Rattle.callforms.proofs.Asking.{CallOf, own-call}
 use Rattle.scriptlines.specs.declared.line.Line.{Line}
-use Rattle.scriptlines.specs.declared.line.Line.TheVariants.{Silent, Unreadable, Rating, House, Board, Call, Row, Store, Clear}
+use Rattle.scriptlines.specs.declared.line.Line.TheVariants.{Silent, Rating, House, Board, Call, Row, Store, Clear}
 use Rattle.scriptlines.specs.Lines.{rating_line, price_line, choose_line, is_row_text, store_line, asked, readable, line_by, line_of}
 use Rattle.scriptlines.specs.Saying.{line_verb, SaidBy}
 

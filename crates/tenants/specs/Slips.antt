@@ -1,7 +1,6 @@
 -- Calls that a careless office makes, each of which is refused whatever stands at its number.
-use Rattle.std.specs.Prelude.{ℕ, ◌+◌, ◌-◌, ◌%◌, ◌^◌, Bool, cond, not, ◌&&◌, List, replicate, Some, None, Option, ◌==◌, nat_lt, slice_index, slice_set}
+use Rattle.std.specs.Prelude.{ℕ, ◌+◌, ◌-◌, ◌%◌, ◌^◌, cond, not, ◌&&◌, List, replicate, Some, None, Option, ◌==◌, nat_lt, slice_index, slice_set}
 use Rattle.account.specs.declared.event.OpeningForm.{OpeningForm}
-use Rattle.facts.specs.declared.form.ProfileForm.{ProfileForm}
 use Rattle.chance.specs.Drawn.{drawn, drawn_below}
 use Rattle.run.specs.declared.call.Call.{Call}
 use Rattle.run.specs.declared.call.Call.TheVariants.{Post, Open, Read, Settle, Pay, Close, Show}

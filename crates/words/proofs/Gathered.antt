@@ -1,5 +1,5 @@
 -- Gathering numbers word by word: ns so far, and at most k more in what is left.
-use Rattle.std.proofs.Common.{◌≡◌, ℕ, zero, suc, Bool, true, false, cond, List, [], ◌∷◌, ◌++◌, Some, None, Option, sym, refl, ap, ◌∙◌, append_assoc, append-nil}
+use Rattle.std.proofs.Common.{◌≡◌, ℕ, zero, suc, true, false, List, [], ◌∷◌, ◌++◌, Some, None, Option, sym, refl, ap, ◌∙◌, append_assoc, append-nil}
 use Rattle.std.specs.Option.{option_map}
 use Rattle.words.specs.Words.{word_of, rest_of}
 use Rattle.words.specs.Numbers.{is_end, number_of, with_number, numbers_of}

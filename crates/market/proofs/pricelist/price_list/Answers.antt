@@ -1,4 +1,4 @@
-use Rattle.std.proofs.Common.{◌≡◌, ℕ, List, [], ◌++◌, vec_items, ap, ◌∙◌}
+use Rattle.std.proofs.Common.{◌≡◌, ℕ, List, ◌++◌, vec_items, ap, ◌∙◌}
 use Rattle.house.specs.Writing.{line_bytes, end_bytes}
 use Rattle.market.specs.Pricelists.{home_line, large_line, price_lines}
 use Rattle.market.proofs.pricelist.price_list.Goals as goal

@@ -1,4 +1,4 @@
-use Rattle.std.proofs.Common.{◌≡◌, ◌<◌, map, length, get_or, sym, ◌∙◌, arith, length-set}
+use Rattle.std.proofs.Common.{◌<◌, map, length, get_or, sym, ◌∙◌, arith, length-set}
 use Rattle.std.proofs.lemmas.List.Edits.{fill_by_more}
 use Rattle.std.proofs.lemmas.List.{get_or-map, length-map}
 use Rattle.facts.specs.declared.kind.Kind.TheVariants.{Unused}

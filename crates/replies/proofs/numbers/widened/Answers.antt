@@ -1,4 +1,4 @@
-use Rattle.std.proofs.Common.{◌≡◌, ◌<◌, length, get_or, arith, length-set}
+use Rattle.std.proofs.Common.{◌<◌, length, get_or, arith, length-set}
 use Rattle.std.proofs.lemmas.List.Edits.{fill_by_more}
 use Rattle.replies.proofs.SameFigures.{same-figures}
 use Rattle.replies.proofs.numbers.widened.Goals as goal

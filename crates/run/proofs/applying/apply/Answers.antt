@@ -1,4 +1,4 @@
-use Rattle.std.proofs.Common.{◌≡◌, sym, ap, ◌∙◌}
+use Rattle.std.proofs.Common.{sym, ap, ◌∙◌}
 use Rattle.cabinet.specs.Books.{books_of}
 use Rattle.law.specs.Transcript.{reply_of, after_of}
 use Rattle.run.specs.Asked.{asked}

@@ -1,4 +1,4 @@
-use Rattle.std.proofs.Common.{◌≡◌, length, refl, arith, rules}
+use Rattle.std.proofs.Common.{◌≡◌, length, refl, arith}
 use Rattle.std.proofs.lemmas.List.{ext_get_or}
 use Rattle.facts.specs.declared.kind.Kind.TheVariants.{Unused}
 use Rattle.twoboards.proofs.agreement.are_same_kinds.Goals as goal

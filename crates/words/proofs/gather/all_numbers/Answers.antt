@@ -1,7 +1,7 @@
 use Rattle.std.proofs.Common.{◌≡◌, ℕ, suc, ◌+◌, ◌-◌, ◌<◌, true, false, eqb, List, [], ◌∷◌, ◌++◌, length, Some, None, sym, ap, ◌∙◌, subst, arith, length-append}
 use Rattle.std.proofs.lemmas.Bool.Decides.{nat_tests}
 use Rattle.std.specs.Option.{option_map}
-use Rattle.words.specs.Words.{word_of, rest_of}
+use Rattle.words.specs.Words.{word_of}
 use Rattle.words.specs.Numbers.{is_end, number_of, numbers_of}
 use Rattle.words.specs.Held.{held}
 use Rattle.words.proofs.Gathered.{at_first, at-end, at_other, at-full, at_more}

@@ -1,5 +1,4 @@
-use Rattle.std.proofs.Common.{◌≡◌, true, sym, subst, arith, rules}
-use Rattle.std.proofs.lemmas.Bool.Decides.{nat_tests}
+use Rattle.std.proofs.Common.{◌≡◌, true, sym, subst, rules}
 use Rattle.account.specs.declared.figure.Figure.TheVariants.{Waiting}
 use Rattle.account.specs.Registers.{register_fits, RegisterLimits}
 use Rattle.account.proofs.Following.{reading-readies}

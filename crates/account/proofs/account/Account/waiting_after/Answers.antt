@@ -1,11 +1,11 @@
-use Rattle.std.proofs.Common.{◌≡◌, ℕ, ◌+◌, ◌<◌, ◌≤◌, true, false, length, get_or, Some, sym, ap, ◌∙◌, subst, arith, length-set, rules}
+use Rattle.std.proofs.Common.{◌≡◌, ℕ, ◌<◌, ◌≤◌, true, false, length, get_or, Some, ap, ◌∙◌, subst, arith, length-set, rules}
 use Rattle.std.proofs.lemmas.Bool.Decides.{nat_tests}
 use Rattle.std.proofs.lemmas.List.Edits.{fill_by_more}
 use Rattle.std.proofs.lemmas.List.FromFn.{fill_by_all}
 use Rattle.common.specs.Counts.{all_to}
 use Rattle.common.proofs.Counted.{all_to-more, all_to-not, all_to-at}
 use Rattle.facts.specs.Limits.{kwh_fits}
-use Rattle.account.specs.Registers.{kind_of, register_size, difference}
+use Rattle.account.specs.Registers.{kind_of, register_size}
 use Rattle.account.specs.Tenancy.{Tenancy, tenancy_of}
 use Rattle.account.specs.Steps.{joined, join_fits}
 use Rattle.account.proofs.Kwh.{kwh-most, waits-within, joined-within}

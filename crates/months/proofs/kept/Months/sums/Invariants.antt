@@ -1,5 +1,4 @@
-use Rattle.std.proofs.Common.{◌≡◌, ◌+◌, ◌*◌, ◌≤◌}
-use Rattle.common.specs.Counts.{sum_to}
+use Rattle.std.proofs.Common.{◌≡◌, ◌*◌, ◌≤◌}
 use Rattle.months.specs.Posted.{posted_of, ne_sum_of, nc_sum_of}
 use Rattle.months.proofs.kept.Months.sums.Given as goal
 

@@ -1,4 +1,4 @@
-use Rattle.std.proofs.Common.{◌<◌, [], ◌∷◌, map, length, get_or, take, arith, rules}
+use Rattle.std.proofs.Common.{◌<◌, [], ◌∷◌, map, length, get_or, take, rules}
 use Rattle.std.proofs.lemmas.List.{map_more, append_assoc, take_all}
 use Rattle.row.specs.Written.{written}
 use Rattle.facts.specs.Numbers.{kind_number}
