@@ -3,7 +3,7 @@ use Rattle.std.proofs.Common.{◌≡◌, ℕ, suc, ◌+◌, ◌-◌, ◌*◌, �
 use lib.Signed.{mag}
 use Rattle.std.specs.Option.{option_map}
 use Rattle.std.specs.Fmt.{signed_decimal}
-use Rattle.std.specs.List.{AllByRecursion as All}
+use Rattle.std.specs.List.{AllByRecursion}
 use Rattle.std.proofs.lemmas.Fmt.{decimal_by_steps, decimal_nonempty, length-decimal-le}
 use Rattle.std.proofs.ByRecursion.{All-push}
 use Rattle.std.proofs.lemmas.Bool.{and_from, cond-true, cond-false, le-leb, lt-ltb, ne_eqb, and_right}
@@ -32,7 +32,7 @@ digit-more v d h fits =
 
 -- ds are digits, and the number n
 abbrev Reads : ℕ → List ℕ → Type 0
-Reads n ds = n < 2 ^ 64 → (number_from (Some 0) ds ≡ Some n) × All (λ b. (48 ≤ b) × (b ≤ 57)) ds
+Reads n ds = n < 2 ^ 64 → (number_from (Some 0) ds ≡ Some n) × AllByRecursion (λ b. (48 ≤ b) × (b ≤ 57)) ds
 
 one : (n : ℕ) → n < 10 → Reads n ((48 + n) ∷ [])
 one n h fits =
@@ -48,10 +48,10 @@ more n ds h front fits =
       All-push (λ b. (48 ≤ b) × (b ≤ 57)) ds (48 + n % 10) p.1 (omega arith, omega arith),
     )
 
-decimal-reads : (n : ℕ) → n < 2 ^ 64 → (number_from (Some 0) (decimal n) ≡ Some n) × All (λ b. (48 ≤ b) × (b ≤ 57)) (decimal n)
+decimal-reads : (n : ℕ) → n < 2 ^ 64 → (number_from (Some 0) (decimal n) ≡ Some n) × AllByRecursion (λ b. (48 ≤ b) × (b ≤ 57)) (decimal n)
 decimal-reads n h = decimal_by_steps Reads one more n h h
 
-solid-digits : (ds : List ℕ) → All (λ b. (48 ≤ b) × (b ≤ 57)) ds → solid ds ≡ true
+solid-digits : (ds : List ℕ) → AllByRecursion (λ b. (48 ≤ b) × (b ≤ 57)) ds → solid ds ≡ true
 solid-digits [] h = refl
 solid-digits (b ∷ ds) h =
     let low : 48 ≤ b = h.0.0 in
@@ -99,7 +99,7 @@ exactly-spaced ns h =
     (ap (front_of (length ns)) (sym (append-nil (spaced_all ns))) ∙ front-spaced ns [] h refl)
 
 -- numbers with a sign
-first-digit : (w : List ℕ) → All (λ b. (48 ≤ b) × (b ≤ 57)) w → get_or w 0 0 ≡ 45 → ⊥
+first-digit : (w : List ℕ) → AllByRecursion (λ b. (48 ≤ b) × (b ≤ 57)) w → get_or w 0 0 ≡ 45 → ⊥
 first-digit [] h e = omega arith
 first-digit (b ∷ w) h e = let low : 48 ≤ b = h.0.0 in omega arith
 

@@ -1,7 +1,7 @@
 -- The numbers of an answer fit their types.
 use Rattle.std.specs.Prelude.{◌≡◌, ℕ, ◌^◌, ◌<◌, ◌⊎◌, List, [], ◌∷◌, length}
 use Rattle.std.specs.Int.Signed.{mag}
-use Rattle.std.specs.List.{AllByRecursion as All}
+use Rattle.std.specs.List.{AllByRecursion}
 use Rattle.account.specs.declared.form.AccountForm.{AccountForm}
 use Rattle.answers.specs.declared.answer.Answer.{Answer}
 use Rattle.answers.specs.declared.answer.Answer.TheVariants.{Tenths, Lines, Parts, NotPermitted, Plan, NoPlan, Made, Posted, Done, Bill, Account, Vacant, Row, Refused, Unreadable, NoMemory}
@@ -9,7 +9,7 @@ use Rattle.answers.specs.Bills.{bill_numbers}
 
 -- numbers of 64 bits
 abbrev pub Fit64 : List ℕ → Type 0
-Fit64 ns = All (λ n. n < 2 ^ 64) ns
+Fit64 ns = AllByRecursion (λ n. n < 2 ^ 64) ns
 
 -- so many of them
 abbrev pub Array64 : ℕ → List ℕ → Type 0
@@ -38,7 +38,7 @@ AnswerFits Done = Unit {0}
 AnswerFits (Bill b) = Fit64 (bill_numbers b)
 AnswerFits (Account a) = AccountFits a
 AnswerFits Vacant = Unit {0}
-AnswerFits (Row bytes) = (length bytes ≡ 128) × All (λ b. b < 256) bytes
+AnswerFits (Row bytes) = (length bytes ≡ 128) × AllByRecursion (λ b. b < 256) bytes
 AnswerFits (Refused r) = (r.number < 256) × (r.place < 2 ^ 64)
 AnswerFits Unreadable = Unit {0}
 AnswerFits NoMemory = Unit {0}

@@ -1,7 +1,7 @@
 // The years of an estate, one after the other.
 use crate::arguments::Asked;
+use crate::printing::{print_board, print_call, print_house};
 use crate::report::{print_checks, print_heading, print_total, print_year};
-use crate::script::{print_board, print_call, print_house};
 use estatelife::Estate;
 use tenants::Round;
 use twoboards::journal_length;

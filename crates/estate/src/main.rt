@@ -3,8 +3,8 @@
 
 mod arguments;
 mod life;
+mod printing;
 mod report;
-mod script;
 
 fn run(rt: &HostRuntime) -> anyhow::Result<()> {
     life::run(rt, arguments::read(rt)?)

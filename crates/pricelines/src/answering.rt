@@ -4,7 +4,7 @@ ghost use Rattle.house.specs.Houses.{lines_of};
 ghost use Rattle.script.specs.Lines.{said, line_of};
 ghost use Rattle.pricelines.specs.Lines.{found_memory, answer_to, lines_after, Moved};
 
-use crate::pricing::{choose_answer, price_answer, rating_answer};
+use crate::asked::{choose_answer, price_answer, rating_answer};
 use crate::reading::house_answer;
 use house::House;
 use script::{Answer, Line, read_line};

@@ -2,7 +2,7 @@
 #![tactic(auto)]
 
 mod answering;
-mod pricing;
+mod asked;
 mod reading;
 
 pub use answering::{answer, answer_text};
