@@ -1,7 +1,9 @@
 // Profiles and facts as they are handed in: any numbers.
 ghost use Rattle.std.specs.Prelude.{◌≡◌};
+ghost use Rattle.facts.specs.declared.form.FactsFault.TheVariants.{OutsideLimits as FactsOutside};
 ghost use Rattle.facts.specs.Refusals.{facts_refusal};
 
+use common::UnknownNumber;
 use figures::{NcSum, NeSum};
 use refusal::{Layer, Refusal};
 
@@ -32,12 +34,21 @@ pub enum FactsFault {
     OutsideLimits,
 }
 
-impl FactsFault {
-    // The refusal that this fault is: 5, place 0.
-    pub fn refusal(self) -> Refusal
-        ensures { result ≡ facts_refusal self }
-    {
-        match self {
+// A number that is no class, no marks or no kind is outside the limits.
+impl From<UnknownNumber> for FactsFault {
+    ghost from_gives = { λ _ fault. fault ≡ FactsOutside };
+
+    fn from(_number: UnknownNumber) -> FactsFault {
+        FactsFault::OutsideLimits
+    }
+}
+
+// The refusal that a fault is: 5, place 0.
+impl From<FactsFault> for Refusal {
+    ghost from_gives = { λ fault refusal. refusal ≡ facts_refusal fault };
+
+    fn from(fault: FactsFault) -> Refusal {
+        match fault {
             FactsFault::OutsideLimits => Refusal {
                 number: 5,
                 layer: Layer::Ledger,

@@ -1,13 +1,16 @@
 // Making profiles and facts from numbers, each limit looked at.
-ghost use Rattle.std.specs.Prelude.{◌≡◌, IfSome};
+ghost use Rattle.std.specs.Prelude.{◌≡◌, IfOk};
+ghost use Rattle.std.specs.Result.{result_ok};
+ghost use Rattle.common.specs.Counts.{all_to};
 ghost use Rattle.facts.specs.Limits.{may_have, kwh_fits, KwhLimits};
 ghost use Rattle.facts.specs.Usage.{dwelling_of, usage_of};
-ghost use Rattle.facts.specs.Forms.{kinds_at, kwh_at, made, profile_made, facts_made};
+ghost use Rattle.facts.specs.Forms.{kinds_at, circuit_fits, kwh_at, made, profile_made, facts_made};
 
 use crate::facts::Facts;
 use crate::form::{FactsFault, FactsForm, ProfileForm};
 use crate::kind::{Class, Kind, Marks};
 use crate::profile::Profile;
+use common::UnknownNumber;
 
 // The largest power, in tenths of a kVA.
 const MOST_POWER: u64 = 2_500;
@@ -20,14 +23,11 @@ const MOST_FIGURE: u64 = 99_999;
 fn may_have(class: Class, marks: Marks) -> bool
     ensures { result ≡ may_have class marks }
 {
-    match class {
-        Class::Residential => true,
-        Class::Professional => !marks.protected,
-    }
+    class == Class::Residential || !marks.protected
 }
 
 // Whether a circuit of this kind may have so many kWh.
-fn kwh_fit(kind: Kind, kwh: u64) -> bool
+fn fits(kind: Kind, kwh: u64) -> bool
     ensures { result ≡ kwh_fits kind kwh }
 {
     match kind {
@@ -36,33 +36,30 @@ fn kwh_fit(kind: Kind, kwh: u64) -> bool
     }
 }
 
-// The kinds of six circuits, where each number is one.
-fn kinds_from(numbers: &[u64; 6]) -> Option<[Kind; 6]>
-    ensures { result ≡ kinds_at numbers.now }
+// Whether each of six circuits may have so many kWh.
+fn all_fit(kinds: &[Kind; 6], kwh: &[u64; 6]) -> bool
+    ensures { result ≡ all_to (circuit_fits kinds.now kwh.now) 6 }
 {
-    let mut kinds = [Kind::Unused; 6];
-    for (i, number) in numbers.iter().enumerate() {
-        let Some(kind) = Kind::from_number(*number) else {
-            return None;
-        };
-        kinds[i] = kind;
-    }
-    Some(kinds)
+    let mut circuits = kinds.iter().zip(kwh);
+    circuits.all(|(kind, kwh)| fits(*kind, *kwh))
+}
+
+// The kinds of six circuits, where each number is one.
+fn kinds_from(numbers: [u64; 6]) -> Result<[Kind; 6], UnknownNumber>
+    ensures { result_ok result ≡ kinds_at numbers }
+{
+    numbers.try_map(Kind::try_from)
 }
 
 // The kWh of six circuits, where each is within its limit.
-fn kwh_from(kinds: &[Kind; 6], numbers: &[u64; 6]) -> Option<[u32; 6]>
-    ensures value { result ≡ kwh_at kinds.now numbers.now }
-    ensures limits { IfSome result (KwhLimits 6 kinds.now) }
+fn kwh_from(kinds: &[Kind; 6], kwh: &[u64; 6]) -> Result<[u32; 6], FactsFault>
+    ensures value { result_ok result ≡ kwh_at kinds.now kwh.now }
+    ensures limits { IfOk result (KwhLimits 6 kinds.now) }
 {
-    let mut kwh = [0u32; 6];
-    for (i, number) in numbers.iter().enumerate() {
-        if !kwh_fit(kinds[i], *number) {
-            return None;
-        }
-        kwh[i] = *number as u32;
+    if !all_fit(kinds, kwh) {
+        return Err(FactsFault::OutsideLimits);
     }
-    Some(kwh)
+    Ok(kwh.map(|kwh| kwh as u32))
 }
 
 impl Profile {
@@ -70,21 +67,18 @@ impl Profile {
     pub fn new(form: &ProfileForm) -> Result<Profile, FactsFault>
         ensures { made dwelling_of result ≡ profile_made form.now }
     {
-        let Some(class) = Class::from_number(form.class) else {
-            return Err(FactsFault::OutsideLimits);
-        };
-        let Some(marks) = Marks::from_number(form.marks) else {
-            return Err(FactsFault::OutsideLimits);
-        };
+        let class = Class::try_from(form.class)?;
+        let marks = Marks::try_from(form.marks)?;
         if !may_have(class, marks) {
             return Err(FactsFault::OutsideLimits);
         }
-        if form.power < 1 || form.power > MOST_POWER || form.exempt > form.power {
+        if !(1..=MOST_POWER).contains(&form.power) {
             return Err(FactsFault::OutsideLimits);
         }
-        let Some(kinds) = kinds_from(&form.kinds) else {
+        if form.exempt > form.power {
             return Err(FactsFault::OutsideLimits);
-        };
+        }
+        let kinds = kinds_from(form.kinds)?;
         Ok(Profile {
             class,
             marks,
@@ -101,13 +95,9 @@ impl Facts {
         ensures { made usage_of result ≡ facts_made form.now }
     {
         let profile = Profile::new(&form.profile)?;
-        let Some(day) = kwh_from(&profile.kinds, &form.day) else {
-            return Err(FactsFault::OutsideLimits);
-        };
-        let Some(night) = kwh_from(&profile.kinds, &form.night) else {
-            return Err(FactsFault::OutsideLimits);
-        };
-        if form.months < 1 || form.months > 12 {
+        let day = kwh_from(&profile.kinds, &form.day)?;
+        let night = kwh_from(&profile.kinds, &form.night)?;
+        if !(1..=12).contains(&form.months) {
             return Err(FactsFault::OutsideLimits);
         }
         let most = MOST_FIGURE * form.months;

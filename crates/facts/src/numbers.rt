@@ -1,52 +1,59 @@
 // The numbers by which classes, marks and kinds are handed in and kept.
 ghost use Rattle.std.specs.Prelude.{◌≡◌};
-ghost use Rattle.common.specs.Numbering.{Numbered};
+ghost use Rattle.common.specs.Numbering.{Numbered, found_at};
 ghost use Rattle.facts.specs.Numbers.{class_number, class_at, kind_number, kind_at, marks_number, marks_at};
 
 use crate::kind::{Class, Kind, Marks};
+use common::UnknownNumber;
 
-impl Class {
-    // The class of a number, 0 or 1.
-    pub fn from_number(number: u64) -> Option<Class>
-        ensures value { result ≡ class_at number }
-        ensures numbered { Numbered class_number number result }
-    {
+// The class of a number, 0 or 1.
+impl TryFrom<u64> for Class {
+    type Error = UnknownNumber;
+
+    ghost try_from_gives = { λ n r. (r ≡ found_at n (class_at n)) × Numbered class_number n (class_at n) };
+
+    fn try_from(number: u64) -> Result<Class, UnknownNumber> {
         match number {
-            0 => Some(Class::Residential),
-            1 => Some(Class::Professional),
-            _ => None,
+            0 => Ok(Class::Residential),
+            1 => Ok(Class::Professional),
+            _ => Err(UnknownNumber { number }),
         }
     }
+}
 
-    pub fn number(self) -> u8
-        ensures { result ≡ class_number self }
-    {
-        match self {
+impl From<Class> for u8 {
+    ghost from_gives = { λ class n. n ≡ class_number class };
+
+    fn from(class: Class) -> u8 {
+        match class {
             Class::Residential => 0,
             Class::Professional => 1,
         }
     }
 }
 
-impl Kind {
-    // The kind of a number, 0 to 3.
-    pub fn from_number(number: u64) -> Option<Kind>
-        ensures value { result ≡ kind_at number }
-        ensures numbered { Numbered kind_number number result }
-    {
+// The kind of a number, 0 to 3.
+impl TryFrom<u64> for Kind {
+    type Error = UnknownNumber;
+
+    ghost try_from_gives = { λ n r. (r ≡ found_at n (kind_at n)) × Numbered kind_number n (kind_at n) };
+
+    fn try_from(number: u64) -> Result<Kind, UnknownNumber> {
         match number {
-            0 => Some(Kind::Unused),
-            1 => Some(Kind::General),
-            2 => Some(Kind::NightReserved),
-            3 => Some(Kind::Interruptible),
-            _ => None,
+            0 => Ok(Kind::Unused),
+            1 => Ok(Kind::General),
+            2 => Ok(Kind::NightReserved),
+            3 => Ok(Kind::Interruptible),
+            _ => Err(UnknownNumber { number }),
         }
     }
+}
 
-    pub fn number(self) -> u8
-        ensures { result ≡ kind_number self }
-    {
-        match self {
+impl From<Kind> for u8 {
+    ghost from_gives = { λ kind n. n ≡ kind_number kind };
+
+    fn from(kind: Kind) -> u8 {
+        match kind {
             Kind::Unused => 0,
             Kind::General => 1,
             Kind::NightReserved => 2,
@@ -55,25 +62,28 @@ impl Kind {
     }
 }
 
-impl Marks {
-    // The marks of a number, 0 to 7: bit 0 two-rate, bit 1 extension, bit 2 protected.
-    pub fn from_number(number: u64) -> Option<Marks>
-        ensures value { result ≡ marks_at number }
-        ensures numbered { Numbered marks_number number result }
-    {
+// The marks of a number, 0 to 7: bit 0 two-rate, bit 1 extension, bit 2 protected.
+impl TryFrom<u64> for Marks {
+    type Error = UnknownNumber;
+
+    ghost try_from_gives = { λ n r. (r ≡ found_at n (marks_at n)) × Numbered marks_number n (marks_at n) };
+
+    fn try_from(number: u64) -> Result<Marks, UnknownNumber> {
         if number > 7 {
-            return None;
+            return Err(UnknownNumber { number });
         }
-        Some(Marks {
+        Ok(Marks {
             two_rate: number % 2 == 1,
             extension: number / 2 % 2 == 1,
             protected: number / 4 == 1,
         })
     }
+}
 
-    pub fn number(self) -> u8
-        ensures { result ≡ marks_number self }
-    {
-        self.two_rate as u8 + 2 * self.extension as u8 + 4 * self.protected as u8
+impl From<Marks> for u8 {
+    ghost from_gives = { λ marks n. n ≡ marks_number marks };
+
+    fn from(marks: Marks) -> u8 {
+        marks.two_rate as u8 + 2 * marks.extension as u8 + 4 * marks.protected as u8
     }
 }

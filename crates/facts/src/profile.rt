@@ -5,7 +5,7 @@ ghost use Rattle.facts.specs.Limits.{Powers, may_have};
 use crate::kind::{Class, Kind, Marks};
 
 // What is agreed with a dwelling for the whole of a tenancy. Power is what the connection makes available and exempt the part of it that is free of kVA charges, both in tenths of a kVA.
-#[derive(Clone, Copy)]
+#[derive(Clone, Copy, PartialEq, Eq, Debug)]
 pub struct Profile {
     pub class: Class,
     pub marks: Marks,

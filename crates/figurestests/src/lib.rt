@@ -5,6 +5,7 @@
 mod tests {
     use figures::{Month, round_half_down};
     use rating::rating;
+    use refusal::Refusal;
 
     // An exact half goes down, anything above it up, and a quotient by 0 is 0.
     #[test]
@@ -20,10 +21,7 @@ mod tests {
 
     // N_E of these indices, where they are taken.
     fn ne(s: u64, mx: u64, nc: u64) -> Option<u32> {
-        match Month::from_indices(s, mx, nc) {
-            Some(month) => Some(month.ne()),
-            None => None,
-        }
+        Month::from_indices(s, mx, nc).map(Month::ne)
     }
 
     // At the base indices N_E is 1; with s 892,572 it is 1.0019.
@@ -48,13 +46,9 @@ mod tests {
 
     // The tenths of a rating, and the place of a refusal.
     fn tenths(network: u64, ampere: u64) -> Result<u16, (u8, u64)> {
-        match rating(network, ampere) {
-            Ok(tenths) => Ok(tenths),
-            Err(fault) => {
-                let refusal = fault.refusal();
-                Err((refusal.number, refusal.place))
-            }
-        }
+        rating(network, ampere)
+            .map_err(Refusal::from)
+            .map_err(|refusal| (refusal.number, refusal.place))
     }
 
     // The corners of the published table, and what lies outside it.

@@ -13,12 +13,12 @@ pub enum PostFault {
     OutsideLimits(u64),
 }
 
-impl PostFault {
-    // The refusal that this fault is: 1 or 2, and the month due.
-    pub fn refusal(self) -> Refusal
-        ensures { result ≡ post_refusal self }
-    {
-        let (number, place) = match self {
+// The refusal that a fault is: 1 or 2, and the month due.
+impl From<PostFault> for Refusal {
+    ghost from_gives = { λ fault refusal. refusal ≡ post_refusal fault };
+
+    fn from(fault: PostFault) -> Refusal {
+        let (number, place) = match fault {
             PostFault::AllPosted(due) => (1, due),
             PostFault::OutsideLimits(due) => (2, due),
         };

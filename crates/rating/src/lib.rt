@@ -2,9 +2,10 @@
 #![tactic(auto)]
 
 ghost use Rattle.std.specs.Prelude.{◌≡◌};
-ghost use Rattle.common.specs.Numbering.{Numbered};
+ghost use Rattle.common.specs.Numbering.{Numbered, found_at};
 ghost use Rattle.rating.specs.Ratings.{network_number, network_at, rating_of, rating_refusal};
 
+use common::UnknownNumber;
 use refusal::{Layer, Refusal};
 
 // The networks that a dwelling may be connected to.
@@ -24,27 +25,28 @@ pub enum RatingFault {
     OutsideTable(u64),
 }
 
-impl Network {
-    // The network of a number, 1 to 3.
-    pub fn from_number(number: u64) -> Option<Network>
-        ensures value { result ≡ network_at number }
-        ensures numbered { Numbered network_number number result }
-    {
+// The network of a number, 1 to 3.
+impl TryFrom<u64> for Network {
+    type Error = UnknownNumber;
+
+    ghost try_from_gives = { λ number r. (r ≡ found_at number (network_at number)) × Numbered network_number number (network_at number) };
+
+    fn try_from(number: u64) -> Result<Network, UnknownNumber> {
         match number {
-            1 => Some(Network::TwoWire),
-            2 => Some(Network::ThreeWire),
-            3 => Some(Network::ThreeWireNeutral),
-            _ => None,
+            1 => Ok(Network::TwoWire),
+            2 => Ok(Network::ThreeWire),
+            3 => Ok(Network::ThreeWireNeutral),
+            _ => Err(UnknownNumber { number }),
         }
     }
 }
 
-impl RatingFault {
-    // The refusal that this fault is: 21, and the ampere asked for.
-    pub fn refusal(self) -> Refusal
-        ensures { result ≡ rating_refusal self }
-    {
-        match self {
+// The refusal that a fault is: 21, and the ampere asked for.
+impl From<RatingFault> for Refusal {
+    ghost from_gives = { λ fault refusal. refusal ≡ rating_refusal fault };
+
+    fn from(fault: RatingFault) -> Refusal {
+        match fault {
             RatingFault::OutsideTable(ampere) => Refusal {
                 number: 21,
                 layer: Layer::Rating,
@@ -67,10 +69,8 @@ const RATINGS: [[u16; 15]; 3] = [
 pub fn rating(network: u64, ampere: u64) -> Result<u16, RatingFault>
     ensures { result ≡ rating_of network ampere }
 {
-    let Some(network) = Network::from_number(network) else {
-        return Err(RatingFault::OutsideTable(ampere));
-    };
-    if ampere < 4 || ampere > 18 {
+    let network = Network::try_from(network).map_err(|_| RatingFault::OutsideTable(ampere))?;
+    if !(4..=18).contains(&ampere) {
         return Err(RatingFault::OutsideTable(ampere));
     }
     Ok(RATINGS[network as usize][ampere as usize - 4])

@@ -1,7 +1,8 @@
 // Making a month's figures from the published indices.
-ghost use Rattle.std.specs.Prelude.{◌≡◌, ◌≤◌};
+ghost use Rattle.std.specs.Prelude.{◌≡◌, ◌*◌, ◌≤◌};
 ghost use Rattle.std.specs.Option.{option_map};
-ghost use Rattle.figures.specs.Months.{wage_term, materials_term, non_fuel, month_of};
+ghost use Rattle.figures.specs.Rounding.{rounded};
+ghost use Rattle.figures.specs.Months.{month_of};
 ghost use Rattle.figures.specs.Figures.{month_figures};
 
 use super::Month;
@@ -12,22 +13,34 @@ const MOST: u64 = 99_999;
 // The largest wage or materials index that is taken.
 const MOST_INDEX: u64 = 9_999_999;
 
-// The share of wages in N_E: 390 thousandths of the wage index over its base of 8.88131.
-fn wage_term(s: u64) -> u64
-    requires { s ≤ 9999999 }
-    ensures { result ≡ wage_term s }
-{
-    let ratio = round_half_down(10_000 * s, 888_131);
-    round_half_down(390 * ratio, 1_000)
+// How a published index counts towards N_E: over its base, and some thousandths of that.
+#[derive(Clone, Copy)]
+struct Weight {
+    base: u64,
+    thousandths: u64,
 }
 
-// The share of materials in N_E: 185 thousandths of the materials index over its base of 141.151.
-fn materials_term(mx: u64) -> u64
-    requires { mx ≤ 9999999 }
-    ensures { result ≡ materials_term mx }
-{
-    let ratio = round_half_down(10_000 * mx, 141_151);
-    round_half_down(185 * ratio, 1_000)
+// The wage index has the base 8.88131.
+const WAGES: Weight = Weight {
+    base: 888_131,
+    thousandths: 390,
+};
+// The materials index has the base 141.151.
+const MATERIALS: Weight = Weight {
+    base: 141_151,
+    thousandths: 185,
+};
+
+impl Weight {
+    // The share of an index in N_E, in ten-thousandths.
+    fn term(self, index: u64) -> u64
+        requires index { index ≤ 9999999 }
+        requires part { self.thousandths ≤ 1000 }
+        ensures { result ≡ rounded (self.thousandths * rounded (10000 * index) self.base) 1000 }
+    {
+        let ratio = round_half_down(10_000 * index, self.base);
+        round_half_down(self.thousandths * ratio, 1_000)
+    }
 }
 
 impl Month {
@@ -35,10 +48,11 @@ impl Month {
     pub fn from_indices(s: u64, mx: u64, nc: u64) -> Option<Month>
         ensures { option_map month_figures result ≡ month_of s mx nc }
     {
-        if s < 1 || s > MOST_INDEX || mx < 1 || mx > MOST_INDEX || nc > MOST {
+        let indices = 1..=MOST_INDEX;
+        if !indices.contains(&s) || !indices.contains(&mx) || nc > MOST {
             return None;
         }
-        let ne = 4_250 + wage_term(s) + materials_term(mx);
+        let ne = 4_250 + WAGES.term(s) + MATERIALS.term(mx);
         if ne > MOST {
             return None;
         }

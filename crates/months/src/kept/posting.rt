@@ -44,9 +44,7 @@ impl Months {
         if due >= MOST {
             return Err(PostFault::AllPosted(due));
         }
-        let Some(month) = Month::from_indices(s, mx, nc) else {
-            return Err(PostFault::OutsideLimits(due));
-        };
+        let month = Month::from_indices(s, mx, nc).ok_or(PostFault::OutsideLimits(due))?;
         self.keep(month);
         Ok((due, month.ne() as u64))
     }
@@ -56,14 +54,11 @@ impl Months {
         ensures value { result ≡ sums_answer (posted_of self.now) first months }
         ensures bound { IfSome result (SumLimits months) }
     {
-        let count = self.count();
-        if first > count || months as u64 > count - first {
-            return None;
-        }
+        let end = first.checked_add(months as u64)?;
+        let period = self.posted.get(first as usize..end as usize)?;
         let mut ne = 0u64;
         let mut nc = 0u64;
-        for i in 0..months as u64 {
-            let month = self.posted[(first + i) as usize];
+        for month in period {
             ne += month.ne() as u64;
             nc += month.nc() as u64;
         }

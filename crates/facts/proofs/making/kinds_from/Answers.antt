@@ -1,32 +1,52 @@
-use Rattle.std.proofs.Common.{◌≡◌, ◌<◌, true, false, length, Some, ap, subst, arith, length-set}
-use Rattle.std.proofs.lemmas.Bool.Decides.{nat_tests}
-use Rattle.std.proofs.lemmas.List.Edits.{fill_by_more}
+use Rattle.std.proofs.Common.{rules, ◌≡◌, ℕ, ◌<◌, List, length, get_or, is_some, Some, None, Ok, Err, Option, Result, IfOk, ap, sym, subst, ◌∙◌, arith}
+use Rattle.std.specs.Result.{result_ok, IfErr}
+use Rattle.std.specs.Option.{unwrap_or}
+use Rattle.std.proofs.lemmas.List.{get_or_default}
 use Rattle.std.proofs.lemmas.List.FromFn.{fill_by_all}
-use Rattle.common.specs.Counts.{all_to}
-use Rattle.common.proofs.Counted.{all_to-more, all_to-not}
+use Rattle.std.proofs.lemmas.Result.{IfOk-weaker, IfErr-weaker}
+use Rattle.common.specs.declared.UnknownNumber.{UnknownNumber}
+use Rattle.common.specs.Numbering.{found_at}
+use Rattle.common.proofs.Counted.{all_to-from, all_to-not}
+use Rattle.facts.specs.declared.kind.Kind.{Kind}
 use Rattle.facts.specs.declared.kind.Kind.TheVariants.{Unused}
-use Rattle.facts.specs.Forms.{kind_known, kind_read}
+use Rattle.facts.specs.Numbers.{kind_at}
+use Rattle.facts.specs.Forms.{kinds_at, kind_known, kind_read}
 use Rattle.facts.proofs.making.kinds_from.Goals as goal
 
-pub returns-in_default : goal.returns-in_default
-returns-in_default c =
-    let f : kind_known c.args.numbers.now c.loop-i.i ≡ false = grind (arith, nat_tests) in
-    rw (all_to-not (kind_known c.args.numbers.now) 6 c.loop-i.i (omega arith) f)
+found : (n : ℕ) (o : Option Kind) (k : Kind) → Ok k ≡ found_at n o → o ≡ Some k
+found n (Some x) k e = cc
+found n None k e = cc
 
-pub loop-i-preserved : goal.loop-i-preserved
-loop-i-preserved c =
-    let h : c.loop-i.i < length c.loop-i.kinds = omega arith in
-    let f : kind_known c.args.numbers.now c.loop-i.i ≡ true = grind (arith, nat_tests) in
-    let k : c.in-Some.kind ≡ kind_read c.args.numbers.now c.loop-i.i = grind (arith, nat_tests) in
-    let m = all_to-more (kind_known c.args.numbers.now) c.loop-i.i in (
-      simp length-set c.loop-i.invariant.0,
-      simp k (fill_by_more (kind_read c.args.numbers.now) c.loop-i.kinds c.loop-i.i Unused h c.loop-i.invariant.1),
-      grind arith,
-    )
+missed : (n : ℕ) (o : Option Kind) (f : UnknownNumber) → Err f ≡ found_at n o → o ≡ None
+missed n (Some x) f e = cc
+missed n None f e = cc
+
+-- what each number stands for, or one that stands for nothing
+made : (numbers : List ℕ) (r : Result (List Kind) UnknownNumber) → length numbers ≡ 6
+    → IfOk r (λ ys. (length ys ≡ 6) × ((i : ℕ) → i < 6 → kind_at (get_or numbers i 0) ≡ Some (get_or ys i Unused)))
+    → IfErr r (λ e. (i : ℕ) × (i < 6) × (kind_at (get_or numbers i 0) ≡ None))
+    → result_ok r ≡ kinds_at numbers
+made numbers (Ok ys) n h e =
+    let t = all_to-from (kind_known numbers) 6 (λ i l. ap is_some (h.1 i l)) in
+    let o = fill_by_all (kind_read numbers) ys 6 Unused h.0 (λ i l. sym (ap (λ o. unwrap_or o Unused) (h.1 i l))) in
+    rw t (ap Some o)
+made numbers (Err f) n h e = rw (all_to-not (kind_known numbers) 6 e.0 e.1 (ap is_some e.2))
 
 pub returns : goal.returns
 returns c =
-    let e : c.loop-i.i ≡ 6 = omega arith in
-    let t : all_to (kind_known c.args.numbers.now) 6 ≡ true = subst (λ n. all_to (kind_known c.args.numbers.now) n ≡ true) e c.loop-i.invariant.2 in
-    let o = fill_by_all (kind_read c.args.numbers.now) c.loop-i.kinds 6 Unused c.loop-i.invariant.0 (λ k h. c.loop-i.invariant.1 k (omega arith)) in
-    rw t (ap Some o)
+    let numbers = c.args.numbers in
+    let ok : IfOk c.try_map.result (λ ys. (length ys ≡ 6) × ((i : ℕ) → i < 6 → kind_at (get_or numbers i 0) ≡ Some (get_or ys i Unused)))
+    = IfOk-weaker c.try_map.result _ _ (λ ys h. (
+      h.long,
+      λ i l.
+          let a = h.at i 0 Unused l in
+          let w : Ok (get_or ys i Unused) ≡ found_at (get_or numbers i 0) (kind_at (get_or numbers i 0)) = search rules in
+          found _ _ _ w,
+    )) c.try_map.ensures.ok in
+    let err : IfErr c.try_map.result (λ e. (i : ℕ) × (i < 6) × (kind_at (get_or numbers i 0) ≡ None))
+    = IfErr-weaker c.try_map.result _ _ (λ f h.
+    let (x, among, p, q, s) = h in
+    let w : Err f ≡ found_at x (kind_at x) = search rules in
+    let e : x ≡ get_or numbers among.0 0 = among.1.1 ∙ get_or_default numbers among.0 x 0 among.1.0 in
+    (among.0, omega arith, subst (λ n. kind_at n ≡ None) e (missed x (kind_at x) f w))) c.try_map.ensures.err in
+    made numbers c.try_map.result (omega arith) ok err
