@@ -15,23 +15,15 @@ use sheet::{Sheet, choose};
 fn month_answer(s: u64, mx: u64) -> Option<Answer>
     ensures { result ≡ month_answer s mx }
 {
-    match Month::from_indices(s, mx, 10_000) {
-        Some(month) => Some(Answer::NonFuel(month.ne())),
-        None => None,
-    }
+    Month::from_indices(s, mx, 10_000).map(|month| Answer::NonFuel(month.ne()))
 }
 
 // The cheapest plan of a sheet.
 fn plan_answer<S: Sheet>(sheet: &S, form: &FactsForm) -> Option<Answer>
     ensures { result ≡ plan_answer (S.tariff sheet.now) form.now }
 {
-    let Ok(facts) = Facts::new(form) else {
-        return None;
-    };
-    match choose(sheet, &facts) {
-        Some(plan) => Some(Answer::Plan(plan.code, plan.cents)),
-        None => None,
-    }
+    let facts = Facts::new(form).ok()?;
+    choose(sheet, &facts).map(|plan| Answer::Plan(plan.code, plan.cents))
 }
 
 // Twelve indices: this one for circuit 0 by day, and 0 for the other registers.
@@ -45,13 +37,9 @@ fn day_index(index: u64) -> [u64; 12]
 fn reading_answer(opening: &OpeningForm, indices: &[u64; 12]) -> Option<Answer>
     ensures { result ≡ reading_answer opening.now indices.now }
 {
-    let Ok(account) = Account::open(State::Vacant, opening) else {
-        return None;
-    };
-    match account.read(indices) {
-        Ok(account) => Some(Answer::Kwh(account.waiting_in_all(Hours::Day))),
-        Err(_) => None,
-    }
+    let opened = Account::open(State::Vacant, opening).ok()?;
+    let read = opened.read(indices).ok()?;
+    Some(Answer::Kwh(read.waiting_in_all(Hours::Day)))
 }
 
 // A dwelling's opening with its day register at this index.

@@ -3,7 +3,7 @@
 
 mod meters;
 mod permission;
-mod pricing;
+mod prices;
 mod rates;
 mod tariff;
 

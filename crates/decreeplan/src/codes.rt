@@ -11,7 +11,7 @@ impl Base {
     pub fn of_code(code: u64) -> Option<Base>
         ensures { result ≡ base_of code }
     {
-        Base::from_number(code / 729)
+        Base::try_from(code / 729).ok()
     }
 }
 
@@ -20,10 +20,7 @@ impl Place {
     pub fn first(code: u64) -> Place
         ensures { result ≡ digit_place (code % 3) }
     {
-        match Place::from_number(code % 3) {
-            Some(place) => place,
-            None => unreachable(),
-        }
+        Place::try_from(code % 3).unwrap()
     }
 }
 
@@ -31,24 +28,14 @@ impl Place {
 fn places(code: u64) -> [Place; 6]
     ensures { result ≡ map (place_in code) (range_with_len 0 6) }
 {
-    [
-        Place::first(code),
-        Place::first(code / 3),
-        Place::first(code / 9),
-        Place::first(code / 27),
-        Place::first(code / 81),
-        Place::first(code / 243),
-    ]
+    [code, code / 3, code / 9, code / 27, code / 81, code / 243].map(Place::first)
 }
 
 // The base and the places of a code, where it has a base.
 fn plan(code: u64) -> Option<(Base, [Place; 6])>
     ensures { result ≡ option_map (λ b. (b, map (place_in code) (range_with_len 0 6))) (base_of code) }
 {
-    match Base::of_code(code) {
-        Some(base) => Some((base, places(code))),
-        None => None,
-    }
+    Base::of_code(code).map(|base| (base, places(code)))
 }
 
 // The plan of a code: its base and the place of each circuit. It is the only plan of that code, and there is none from 4,374 on.

@@ -18,10 +18,7 @@ mod tests {
     use std::test::Fail;
 
     fn facts_from(form: &FactsForm) -> Result<Facts, Fail> {
-        match Facts::new(form) {
-            Ok(facts) => Ok(facts),
-            Err(_) => Err(Fail::new("facts outside their limits")),
-        }
+        Facts::new(form).map_err(|_| Fail::new("facts outside their limits"))
     }
 
     fn facts_of(known: &Known) -> Result<Facts, Fail> {
@@ -62,9 +59,7 @@ mod tests {
     fn cheapest_plans(rt: HostRuntime) -> Result<(), Fail> {
         for known in &KNOWN {
             let facts = facts_of(known)?;
-            let Some(plan) = choose(&Decree, &facts) else {
-                return Err(Fail::new("no plan"));
-            };
+            let plan = choose(&Decree, &facts).ok_or_else(|| Fail::new("no plan"))?;
             assert_eq!(rt; plan.code, known.code);
             assert_eq!(rt; plan.parts, known.parts);
             assert_eq!(rt; plan.cents, known.cents);
@@ -90,9 +85,7 @@ mod tests {
     #[test]
     fn dearer_plan_of_as_many_cents(rt: HostRuntime) -> Result<(), Fail> {
         let facts = facts_of(&KNOWN[6])?;
-        let Some(plan) = price_of(&Decree, 732, &facts) else {
-            return Err(Fail::new("not permitted"));
-        };
+        let plan = price_of(&Decree, 732, &facts).ok_or_else(|| Fail::new("not permitted"))?;
         assert_eq!(rt; plan.parts, (6_927_840_000_000, 69_808_870_080_000));
         assert_eq!(rt; plan.cents, KNOWN[6].cents);
         Ok(())
@@ -100,9 +93,7 @@ mod tests {
 
     #[test]
     fn plans_of_codes(rt: HostRuntime) -> Result<(), Fail> {
-        let Some(plan) = places_of(1_506) else {
-            return Err(Fail::new("no plan"));
-        };
+        let plan = places_of(1_506).ok_or_else(|| Fail::new("no plan"))?;
         let places = plan.1;
         assert_eq!(rt; plan.0, Base::Normal30);
         assert_eq!(rt; places[1], Place::ExclusiveNight);

@@ -1,2 +1,3 @@
 mod Rows
 mod Chosen
+mod Handed

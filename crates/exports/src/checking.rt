@@ -1,21 +1,18 @@
 // Whether bytes are an account's row.
 ghost use Rattle.std.specs.Prelude.{◌≡◌};
-ghost use Rattle.exports.specs.Rows.{row_status, TellsRow};
+ghost use Rattle.facts.specs.Forms.{made};
+ghost use Rattle.account.specs.Tenancy.{tenancy_of};
+ghost use Rattle.exports.specs.Rows.{read_status, row_status, TellsRow};
 
+use account::{Account, AccountFault};
 use row::decode;
 
-fn row_status(row: &[u8]) -> u64
-    ensures { result ≡ row_status row.now }
+// The account whose row the bytes are.
+fn account_in(row: &[u8]) -> Result<Account, AccountFault>
+    ensures { read_status (made tenancy_of result) ≡ row_status row.now }
 {
-    if row.len() != 128 {
-        return 17;
-    }
-    let mut bytes = [0; 128];
-    bytes.copy_from_slice(row);
-    match decode(&bytes) {
-        Ok(_) => 0,
-        Err(_) => 17,
-    }
+    let row = <&[u8; 128]>::try_from(row).map_err(|_| AccountFault::BrokenRow)?;
+    decode(row)
 }
 
 // 0 where the bytes are the row of an account, and 17 where they are not.
@@ -24,5 +21,5 @@ pub extern "C" fn funderaky_row_check(row: &[u8]) -> u64
     ensures status { result ≡ row_status row.now }
     ensures exactly { TellsRow row.now result }
 {
-    row_status(row)
+    account_in(row).map_or(17, |_| 0)
 }

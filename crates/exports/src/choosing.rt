@@ -5,19 +5,19 @@ ghost use Rattle.sheets.specs.Named.{tariff_of};
 ghost use Rattle.house.specs.Houses.{lines_of};
 ghost use Rattle.exports.specs.Crossing.{facts_form};
 ghost use Rattle.exports.specs.Sheets.{name_at, lines_handed, tariff_handed};
-ghost use Rattle.exports.specs.Prices.{priced, cheapest_plan};
+ghost use Rattle.exports.specs.Prices.{handed_both, tariff_and_usage, priced, cheapest_plan};
 ghost use Rattle.exports.specs.Statuses.{plan_status, plan_place};
 ghost use Rattle.exports.specs.Chosen.{TellsCheapest};
 
 use crate::crossing::{PeriodFacts, PricedPlan};
 use crate::fault::Fault;
-use facts::Facts;
+use facts::{Facts, FactsForm};
 use house::{House, SheetFault};
 use lineforms::SheetName;
 use sheet::{Plan, choose, price_of};
 use sheets::AnySheet;
 
-// The sheet of a number.
+// The sheet of a number. These numbers are the callers' own, so they stand here and not at the names.
 fn name_at(number: u64) -> Option<SheetName>
     ensures { result ≡ name_at number }
 {
@@ -46,35 +46,34 @@ fn house_for(name: SheetName, bytes: &[u8]) -> Result<House, SheetFault>
 fn sheet_for(number: u64, bytes: &[u8]) -> Result<AnySheet, Fault>
     ensures { made tariff_of result ≡ tariff_handed (name_at number) bytes.now }
 {
-    let Some(name) = name_at(number) else {
-        return Err(Fault::UnknownSheet);
-    };
+    let name = name_at(number).ok_or(Fault::UnknownSheet)?;
     let house = house_for(name, bytes)?;
     Ok(AnySheet::named(name, house))
+}
+
+// The sheet and the facts that a caller hands in.
+fn handed_in(number: u64, bytes: &[u8], facts: &PeriodFacts) -> Result<(AnySheet, Facts), Fault>
+    ensures { made tariff_and_usage result ≡ handed_both (tariff_handed (name_at number) bytes.now) (facts_made (facts_form facts.now)) }
+{
+    let sheet = sheet_for(number, bytes)?;
+    let facts = Facts::new(&FactsForm::from(facts))?;
+    Ok((sheet, facts))
 }
 
 // The plan of a code.
 fn price(number: u64, bytes: &[u8], code: u64, facts: &PeriodFacts) -> Result<Plan, Fault>
     ensures { result ≡ priced (tariff_handed (name_at number) bytes.now) code (facts_made (facts_form facts.now)) }
 {
-    let sheet = sheet_for(number, bytes)?;
-    let facts = Facts::new(&facts.form())?;
-    match price_of(&sheet, code, &facts) {
-        Some(plan) => Ok(plan),
-        None => Err(Fault::NotPermitted),
-    }
+    let (sheet, facts) = handed_in(number, bytes, facts)?;
+    price_of(&sheet, code, &facts).ok_or(Fault::NotPermitted)
 }
 
 // The cheapest plan.
 fn cheapest(number: u64, bytes: &[u8], facts: &PeriodFacts) -> Result<Plan, Fault>
     ensures { result ≡ cheapest_plan (tariff_handed (name_at number) bytes.now) (facts_made (facts_form facts.now)) }
 {
-    let sheet = sheet_for(number, bytes)?;
-    let facts = Facts::new(&facts.form())?;
-    match choose(&sheet, &facts) {
-        Some(plan) => Ok(plan),
-        None => Err(Fault::NotPermitted),
-    }
+    let (sheet, facts) = handed_in(number, bytes, facts)?;
+    choose(&sheet, &facts).ok_or(Fault::NotPermitted)
 }
 
 // Puts a plan into the caller's place and answers 0, or answers why there is none.
@@ -84,10 +83,10 @@ fn hand_back(found: Result<Plan, Fault>, place: &mut PricedPlan) -> u64
 {
     match found {
         Ok(plan) => {
-            *place = PricedPlan::from_plan(plan);
+            *place = PricedPlan::from(plan);
             0
         }
-        Err(fault) => fault.status(),
+        Err(fault) => u64::from(fault),
     }
 }
 

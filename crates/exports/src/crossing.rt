@@ -32,38 +32,39 @@ pub struct PricedPlan {
     pub cents: u64,
 }
 
-impl PeriodFacts {
-    // The same numbers as they are handed to the pricing.
-    pub fn form(&self) -> FactsForm
-        ensures { result ≡ facts_form self.now }
-    {
+// The same numbers as they are handed to the pricing.
+impl From<&PeriodFacts> for FactsForm {
+    ghost from_gives = { λ facts form. form ≡ facts_form facts.now };
+
+    fn from(facts: &PeriodFacts) -> FactsForm {
         let profile = ProfileForm {
-            class: self.customer_class,
-            marks: self.marks,
-            power: self.power,
-            exempt: self.exempt,
-            kinds: self.kinds,
+            class: facts.customer_class,
+            marks: facts.marks,
+            power: facts.power,
+            exempt: facts.exempt,
+            kinds: facts.kinds,
         };
         FactsForm {
             profile,
-            day: self.day,
-            night: self.night,
-            months: self.months,
-            ne: NeSum::new(self.ne_sum),
-            nc: NcSum::new(self.nc_sum),
+            day: facts.day,
+            night: facts.night,
+            months: facts.months,
+            ne: NeSum::new(facts.ne_sum),
+            nc: NcSum::new(facts.nc_sum),
         }
     }
 }
 
-impl PricedPlan {
-    // A plan as it is handed back.
-    pub fn from_plan(plan: Plan) -> PricedPlan
-        ensures { result ≡ priced_plan plan }
-    {
+// A plan as it is handed back.
+impl From<Plan> for PricedPlan {
+    ghost from_gives = { λ plan priced. priced ≡ priced_plan plan };
+
+    fn from(plan: Plan) -> PricedPlan {
+        let (fixed, energy) = plan.parts;
         PricedPlan {
             code: plan.code,
-            fixed: plan.parts.0,
-            energy: plan.parts.1,
+            fixed,
+            energy,
             cents: plan.cents,
         }
     }

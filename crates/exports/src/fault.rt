@@ -5,6 +5,7 @@ ghost use Rattle.exports.specs.declared.fault.Fault.TheVariants.{Sheet as OfShee
 
 use facts::FactsFault;
 use house::SheetFault;
+use refusal::Refusal;
 
 // What stands in the way of a price.
 #[derive(Clone, Copy)]
@@ -34,15 +35,15 @@ impl From<FactsFault> for Fault {
     }
 }
 
-impl Fault {
-    // The number of the refusal that this fault is; 100 for a number that is no sheet's.
-    pub fn status(self) -> u64
-        ensures { result ≡ fault_status self }
-    {
-        match self {
+// The number of the refusal that a fault is; 100 for a number that is no sheet's.
+impl From<Fault> for u64 {
+    ghost from_gives = { λ fault status. status ≡ fault_status fault };
+
+    fn from(fault: Fault) -> u64 {
+        match fault {
             Fault::UnknownSheet => 100,
-            Fault::Sheet(fault) => fault.refusal().number as u64,
-            Fault::Facts(fault) => fault.refusal().number as u64,
+            Fault::Sheet(fault) => Refusal::from(fault).number as u64,
+            Fault::Facts(fault) => Refusal::from(fault).number as u64,
             Fault::NotPermitted => 13,
         }
     }

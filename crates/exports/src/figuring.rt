@@ -12,10 +12,7 @@ use rating::rating;
 pub extern "C" fn funderaky_month_ne(s: u64, mx: u64, nc: u64) -> u64
     ensures { result ≡ ne_or_none (month_of s mx nc) }
 {
-    match Month::from_indices(s, mx, nc) {
-        Some(month) => month.ne() as u64,
-        None => 0,
-    }
+    Month::from_indices(s, mx, nc).map_or(0, |month| month.ne() as u64)
 }
 
 // The tenths of a kVA that a breaker of this rated current makes available on a network; 0 outside the table.
@@ -23,8 +20,5 @@ pub extern "C" fn funderaky_month_ne(s: u64, mx: u64, nc: u64) -> u64
 pub extern "C" fn funderaky_rating(network: u64, ampere: u64) -> u64
     ensures { result ≡ tenths_or_none (rating_of network ampere) }
 {
-    match rating(network, ampere) {
-        Ok(tenths) => tenths as u64,
-        Err(_) => 0,
-    }
+    rating(network, ampere).map_or(0, |tenths| tenths as u64)
 }

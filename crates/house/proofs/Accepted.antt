@@ -1,9 +1,7 @@
 -- Bytes are accepted exactly where they are the writing of a sheet's lines, which are then the lines read.
-use Rattle.std.proofs.Common.{◌≡◌, ℕ, zero, suc, ◌+◌, ◌*◌, ◌≤◌, true, List, [], ◌∷◌, ◌++◌, length, get_or, take, drop, Ok, Err, Result, sym, refl, ap, ◌∙◌, subst, arith}
+use Rattle.std.proofs.Common.{◌≡◌, ℕ, zero, suc, ◌+◌, ◌*◌, ◌≤◌, true, List, [], ◌∷◌, ◌++◌, length, get_or, take, drop, Ok, Err, Result, sym, refl, ap, ◌∙◌, subst, arith, Some, None, Option}
 use Rattle.std.proofs.lemmas.List.{append-nil, append_assoc, length_push, get_or-drop, drop_all}
 use Rattle.house.specs.declared.line.Line.{Line}
-use Rattle.house.specs.declared.line.Entry.{Entry}
-use Rattle.house.specs.declared.line.Entry.TheVariants.{Plan, End}
 use Rattle.house.specs.declared.line.SheetFault.{SheetFault}
 use Rattle.house.specs.declared.line.SheetFault.TheVariants.{NinthLine}
 use Rattle.house.specs.Fields.{size_of, content_of}
@@ -61,15 +59,15 @@ never ls f e = let z : ◌≡◌ {A = ℕ} 0 1 = cc in absurd (omega arith)
 
 -- one field, given what the fields behind it are
 accepted-by : (fields : ℕ) (ls : List Line) (behind : (before : List Line) (bs : List ℕ) → Bytes bs → length before ≤ 8 → LineLimits before → read_on fields before bs ≡ Ok ls → Behind before bs ls)
-    (before : List Line) (bs : List ℕ) (r : Result Entry SheetFault) → Bytes bs → length before ≤ 8 → LineLimits before
+    (before : List Line) (bs : List ℕ) (r : Result (Option Line) SheetFault) → Bytes bs → length before ≤ 8 → LineLimits before
     → entry_of (length before) (21 * length before) bs ≡ r → went fields before bs r ≡ Ok ls → Behind before bs ls
 unfolding Behind
-accepted-by fields ls behind before bs (Ok (Plan l)) b few fit e w =
+accepted-by fields ls behind before bs (Ok (Some l)) b few fit e w =
     let f = plan-facts (length before) (21 * length before) bs l e in
     let p = length_push before l in
     let k = behind (before ++ l ∷ []) (drop 21 bs) (bytes_drop 21 bs b) (omega arith) (limits-push before l fit (subst (λ x. line_fits x ≡ true) f.4 f.5)) w in
     (l ∷ k.0, k.1 ∙ append_assoc before (l ∷ []) k.0, line-front bs b f.1 f.2 f.3 ∙ ap (λ x. line_bytes x ++ drop 21 bs) f.4 ∙ ap (λ t. line_bytes l ++ t) k.2, k.3)
-accepted-by fields ls behind before bs (Ok End) b few fit e w =
+accepted-by fields ls behind before bs (Ok None) b few fit e w =
     let f = end-facts (length before) (21 * length before) bs e in
     let same : before ≡ ls = cc in
     ([], sym same ∙ sym (append-nil before), end-front bs b f.1 f.2 f.3, subst SheetLines same (f.0, few, fit))

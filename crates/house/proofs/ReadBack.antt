@@ -1,9 +1,8 @@
 -- The writing of a sheet's lines is read back as these lines.
-use Rattle.std.proofs.Common.{◌≡◌, ℕ, suc, ◌+◌, ◌-◌, ◌*◌, ◌<◌, ◌≤◌, true, List, [], ◌∷◌, ◌++◌, length, Ok, sym, refl, ap, ◌∙◌, arith}
+use Rattle.std.proofs.Common.{◌≡◌, ℕ, suc, ◌+◌, ◌-◌, ◌*◌, ◌<◌, ◌≤◌, true, List, [], ◌∷◌, ◌++◌, length, Ok, sym, refl, ap, ◌∙◌, arith, Some}
 use Rattle.std.proofs.lemmas.Bool.Decides.{nat_tests}
 use Rattle.std.proofs.lemmas.List.{append-nil, append_assoc, length_push, length-append}
 use Rattle.house.specs.declared.line.Line.{Line}
-use Rattle.house.specs.declared.line.Entry.TheVariants.{Plan}
 use Rattle.house.specs.Lines.{line_fits, LineLimits, SheetLines}
 use Rattle.house.specs.Writing.{content_bytes, line_bytes, end_bytes, written}
 use Rattle.house.specs.Reading.{line_in, plan_of, entry_of, read_on, read_of}
@@ -25,7 +24,7 @@ content-line l f =
     simp (charge, tenth, free, least, dne, dnc, nne, nnc)
 
 -- a written line, whatever is behind it
-entry-line : (n at : ℕ) (l : Line) (more : List ℕ) → n < 8 → line_fits l ≡ true → entry_of n at (line_bytes l ++ more) ≡ Ok (Plan l)
+entry-line : (n at : ℕ) (l : Line) (more : List ℕ) → n < 8 → line_fits l ≡ true → entry_of n at (line_bytes l ++ more) ≡ Ok (Some l)
 entry-line n at l more a f =
     entry-plan n at (line_bytes l ++ more) a (omega (arith, length-append (line_bytes l) more)) refl refl
     ∙ ap (plan_of at) (content-line l f) ∙ rw f

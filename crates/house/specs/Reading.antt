@@ -1,9 +1,7 @@
 -- What reading a sheet's bytes answers.
-use Rattle.std.specs.Prelude.{◌≡◌, ℕ, zero, suc, ◌+◌, ◌*◌, ◌<◌, ◌≤◌, Bool, true, cond, ◌&&◌, List, [], ◌∷◌, ◌++◌, length, drop, Ok, Err, Result, ◌==◌, ◌≢◌, nat_le, slice_index}
+use Rattle.std.specs.Prelude.{◌≡◌, ℕ, zero, suc, ◌+◌, ◌*◌, ◌<◌, ◌≤◌, Bool, true, cond, ◌&&◌, List, [], ◌∷◌, ◌++◌, length, drop, Ok, Err, Result, ◌==◌, ◌≢◌, nat_le, slice_index, Some, None, Option}
 use Rattle.pricing.specs.declared.rate.UnitRate.{UnitRate}
 use Rattle.house.specs.declared.line.Line.{Line}
-use Rattle.house.specs.declared.line.Entry.{Entry}
-use Rattle.house.specs.declared.line.Entry.TheVariants.{Plan, End}
 use Rattle.house.specs.declared.line.SheetFault.{SheetFault}
 use Rattle.house.specs.declared.line.SheetFault.TheVariants.{CutShort, UnknownField, MissingEnd, BytesBehind, ValueTooHigh, NoLine, NinthLine}
 use Rattle.house.specs.Fields.{size_of, cut_short, content_of}
@@ -32,28 +30,28 @@ line_in bs = record {
 }
 
 -- the plan of a line, whose field begins at the byte `at`, if its values are within their limits
-abbrev pub plan_of : ℕ → Line → Result Entry SheetFault
-plan_of at l = cond (line_fits l) (Ok (Plan l)) (Err (ValueTooHigh at))
+abbrev pub plan_of : ℕ → Line → Result (Option Line) SheetFault
+plan_of at l = cond (line_fits l) (Ok (Some l)) (Err (ValueTooHigh at))
 
 -- the field at the front is one of this tag and length
 abbrev pub is_field : ℕ → ℕ → List ℕ → Bool
 is_field tag size bs = slice_index bs 0 == tag && size_of bs == size
 
 -- what the field at the front of bs says, n lines before it, which begins at the byte `at`
-abbrev pub entry_of : ℕ → ℕ → List ℕ → Result Entry SheetFault
+abbrev pub entry_of : ℕ → ℕ → List ℕ → Result (Option Line) SheetFault
 entry_of n at bs =
     cond (length bs == 0) (Err (MissingEnd at))
     (cond (slice_index bs 0 == 1 && nat_le 8 n) (Err (NinthLine at))
     (cond (cut_short bs) (Err (CutShort at))
     (cond (is_field 1 18 bs) (plan_of at (line_in (content_of bs)))
     (cond (is_field 127 0 bs)
-    (cond (length bs == 3) (cond (n == 0) (Err (NoLine at)) (Ok End)) (Err (BytesBehind (at + 3))))
+    (cond (length bs == 3) (cond (n == 0) (Err (NoLine at)) (Ok None)) (Err (BytesBehind (at + 3))))
     (Err (UnknownField at))))))
 
 -- a plan leaves room for itself: it is one of eight, within its limits, and its field lies within the bytes
-abbrev pub EntryRoom : ℕ → List ℕ → Result Entry SheetFault → Type 0
-EntryRoom n bs (Ok (Plan l)) = (n < 8) × (21 ≤ length bs) × (line_fits l ≡ true)
-EntryRoom n bs (Ok End) = Unit {0}
+abbrev pub EntryRoom : ℕ → List ℕ → Result (Option Line) SheetFault → Type 0
+EntryRoom n bs (Ok (Some l)) = (n < 8) × (21 ≤ length bs) × (line_fits l ≡ true)
+EntryRoom n bs (Ok None) = Unit {0}
 EntryRoom n bs (Err f) = Unit {0}
 
 -- reading on behind the lines ls, each of 21 bytes, through at most so many fields: the ninth is refused or the end
@@ -61,7 +59,7 @@ unfoldable pub read_on : ℕ → List Line → List ℕ → Result (List Line) S
 read_on zero ls bs = Err (NinthLine (21 * length ls))
 read_on (suc fields) ls bs =
     elim (entry_of (length ls) (21 * length ls) bs)
-    [ Ok e ↦ elim e [ Plan l ↦ read_on fields (ls ++ l ∷ []) (drop 21 bs) | End ↦ Ok ls ] | Err f ↦ Err f ]
+    [ Ok e ↦ elim e [ Some l ↦ read_on fields (ls ++ l ∷ []) (drop 21 bs) | None ↦ Ok ls ] | Err f ↦ Err f ]
 
 -- the lines that the bytes are, or why they are none
 unfoldable pub read_of : List ℕ → Result (List Line) SheetFault

@@ -4,7 +4,7 @@ ghost use Rattle.house.specs.Lines.{LineLimits};
 
 use crate::line::Line;
 
-// A house sheet: up to eight lines, each within its limits. The first `count` places of `lines` are in use.
+// A house sheet: up to eight lines, each within its limits. The first `count` places of `lines` are in use: a made cabinet takes no memory, and a sheet is copied.
 #[derive(Clone, Copy)]
 pub struct House {
     lines: [Line; 8],

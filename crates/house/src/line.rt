@@ -5,8 +5,14 @@ ghost use Rattle.house.specs.Refusals.{sheet_refusal};
 use pricing::UnitRate;
 use refusal::{Layer, Refusal};
 
+// The tag of a line's field.
+pub const LINE_TAG: u8 = 1;
+// The length of a line's content.
+pub const LINE_LENGTH: usize = 18;
 // The bytes of a line's field, its tag and length among them.
 pub const LINE_BYTES: usize = 21;
+// The tag of the field that ends a sheet.
+pub const END_TAG: u8 = 127;
 
 // One plan: its yearly charge in mills, the mills a year for each tenth of a kVA beyond those without charge, the least power (in tenths of a kVA) that it is open to, and its unit rates by day and by night.
 #[derive(Clone, Copy, PartialEq, Eq, Debug)]
@@ -17,13 +23,6 @@ pub struct Line {
     pub least_power: u16,
     pub day: UnitRate,
     pub night: UnitRate,
-}
-
-// What a field of a sheet says.
-#[derive(Clone, Copy)]
-pub enum Entry {
-    Plan(Line),
-    End,
 }
 
 // Why bytes are not a house sheet, and at which byte.
@@ -45,19 +44,18 @@ pub enum SheetFault {
     NinthLine(u64),
 }
 
-impl SheetFault {
-    // The refusal that this fault is: 18 for the layout, 19 for a value, 20 for the count of lines; its place is the byte.
-    pub fn refusal(self) -> Refusal
-        ensures { result ≡ sheet_refusal self }
-    {
-        let (number, place) = match self {
-            SheetFault::CutShort(at) => (18, at),
-            SheetFault::UnknownField(at) => (18, at),
-            SheetFault::MissingEnd(at) => (18, at),
-            SheetFault::BytesBehind(at) => (18, at),
+// The refusal that a fault is: 18 for the layout, 19 for a value, 20 for the count of lines; its place is the byte.
+impl From<SheetFault> for Refusal {
+    ghost from_gives = { λ fault refusal. refusal ≡ sheet_refusal fault };
+
+    fn from(fault: SheetFault) -> Refusal {
+        let (number, place) = match fault {
+            SheetFault::CutShort(at)
+            | SheetFault::UnknownField(at)
+            | SheetFault::MissingEnd(at)
+            | SheetFault::BytesBehind(at) => (18, at),
             SheetFault::ValueTooHigh(at) => (19, at),
-            SheetFault::NoLine(at) => (20, at),
-            SheetFault::NinthLine(at) => (20, at),
+            SheetFault::NoLine(at) | SheetFault::NinthLine(at) => (20, at),
         };
         Refusal {
             number,

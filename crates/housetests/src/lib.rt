@@ -14,6 +14,7 @@ mod tests {
     use figures::{NcSum, NeSum};
     use house::House;
     use protected::Protected;
+    use refusal::Refusal;
     use sheet::{Sheet, choose, price_of};
     use std::test::Fail;
 
@@ -40,10 +41,7 @@ mod tests {
             ne: NeSum::new(10_000 * months.min(12)),
             nc: NcSum::new(10_000 * months.min(12)),
         };
-        match Facts::new(&form) {
-            Ok(facts) => Ok(facts),
-            Err(_) => Err(Fail::new("facts outside their limits")),
-        }
+        Facts::new(&form).map_err(|_| Fail::new("facts outside their limits"))
     }
 
     fn sheet_of(bytes: &[u8]) -> Result<House, Fail> {
@@ -59,14 +57,12 @@ mod tests {
             match house.read(refused.bytes) {
                 Ok(()) => return Err(Fail::new("accepted")),
                 Err(fault) => {
-                    assert_eq!(rt; fault.refusal().number, refused.number);
-                    assert_eq!(rt; fault.refusal().place, refused.place);
+                    assert_eq!(rt; Refusal::from(fault).number, refused.number);
+                    assert_eq!(rt; Refusal::from(fault).place, refused.place);
                 }
             }
             assert_eq!(rt; house.count(), 1);
-            let Some(line) = house.line(0) else {
-                return Err(Fail::new("no line"));
-            };
+            let line = house.line(0).ok_or_else(|| Fail::new("no line"))?;
             assert_eq!(rt; line.charge, 39_990);
         }
         Ok(())
@@ -78,9 +74,7 @@ mod tests {
         assert_eq!(rt; house.count(), 8);
         house.read(ANOTHER_LINE)?;
         assert_eq!(rt; house.count(), 1);
-        let Some(line) = house.line(0) else {
-            return Err(Fail::new("no line"));
-        };
+        let line = house.line(0).ok_or_else(|| Fail::new("no line"))?;
         assert_eq!(rt; line.charge, 12_050);
         assert_eq!(rt; line.day.ne, 9_695);
         Ok(())
@@ -100,13 +94,11 @@ mod tests {
     #[test]
     fn protected_plan_stands_behind_the_lines(rt: HostRuntime) -> Result<(), Fail> {
         let sheet = Protected::new(sheet_of(ONE_LINE)?);
-        let Some(free) = choose(&sheet, &period(120, 0, 4, 12, 500, 0)?) else {
-            return Err(Fail::new("no plan"));
-        };
+        let facts = period(120, 0, 4, 12, 500, 0)?;
+        let free = choose(&sheet, &facts).ok_or_else(|| Fail::new("no plan"))?;
         assert_eq!(rt; (free.code, free.cents), (1, 0));
-        let Some(paid) = choose(&sheet, &period(120, 0, 4, 12, 501, 0)?) else {
-            return Err(Fail::new("no plan"));
-        };
+        let facts = period(120, 0, 4, 12, 501, 0)?;
+        let paid = choose(&sheet, &facts).ok_or_else(|| Fail::new("no plan"))?;
         assert_eq!(rt; (paid.code, paid.cents), (1, 710));
         Ok(())
     }
@@ -141,13 +133,10 @@ mod tests {
         for published in &PUBLISHED {
             let house = sheet_of(published.bytes)?;
             let facts = period(100, 0, 0, published.months, published.day, 0)?;
-            let Some(plan) = price_of(&house, published.code, &facts) else {
-                return Err(Fail::new("not permitted"));
-            };
+            let found = price_of(&house, published.code, &facts);
+            let plan = found.ok_or_else(|| Fail::new("not permitted"))?;
             assert_eq!(rt; plan.cents, published.cents);
-            let Some(best) = choose(&house, &facts) else {
-                return Err(Fail::new("no plan"));
-            };
+            let best = choose(&house, &facts).ok_or_else(|| Fail::new("no plan"))?;
             assert_eq!(rt; best.code, published.cheapest);
         }
         Ok(())

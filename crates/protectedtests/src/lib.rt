@@ -29,18 +29,13 @@ mod tests {
             ne: NeSum::new(120_000),
             nc: NcSum::new(120_000),
         };
-        match Facts::new(&form) {
-            Ok(facts) => Ok(facts),
-            Err(_) => Err(Fail::new("facts outside their limits")),
-        }
+        Facts::new(&form).map_err(|_| Fail::new("facts outside their limits"))
     }
 
     // The code and the cents of the cheapest plan.
     fn cheapest<S: Sheet>(sheet: &S, facts: &Facts) -> Result<(u64, u64), Fail> {
-        match choose(sheet, facts) {
-            Some(plan) => Ok((plan.code, plan.cents)),
-            None => Err(Fail::new("no plan")),
-        }
+        let plan = choose(sheet, facts).ok_or_else(|| Fail::new("no plan"))?;
+        Ok((plan.code, plan.cents))
     }
 
     #[test]
@@ -66,7 +61,7 @@ mod tests {
         let sheet = Protected::new(Flat::new(3));
         let facts = year(120, 0, 3, 500, 0)?;
         assert_eq!(rt; cheapest(&sheet, &facts)?, (0, 1389));
-        assert_eq!(rt; price_of(&sheet, 3, &facts).is_some(), false);
+        assert!(rt; price_of(&sheet, 3, &facts).is_none());
         assert_eq!(rt; sheet.parts(3, &facts), (0, 0));
         Ok(())
     }
@@ -76,7 +71,7 @@ mod tests {
         let sheet = Protected::new(Flat::new(0));
         assert_eq!(rt; sheet.count(), 1);
         assert_eq!(rt; cheapest(&sheet, &year(120, 0, 4, 500, 0)?)?, (0, 0));
-        assert_eq!(rt; choose(&sheet, &year(120, 0, 0, 500, 0)?).is_some(), false);
+        assert!(rt; choose(&sheet, &year(120, 0, 0, 500, 0)?).is_none());
         Ok(())
     }
 
@@ -95,8 +90,8 @@ mod tests {
         let sheet = Protected::new(Flat::new(64_999));
         let facts = year(120, 0, 4, 500, 0)?;
         assert_eq!(rt; sheet.count(), 65_000);
-        assert_eq!(rt; sheet.permits(64_999, &facts), true);
-        assert_eq!(rt; sheet.permits(65_000, &facts), false);
+        assert!(rt; sheet.permits(64_999, &facts));
+        assert!(rt; !sheet.permits(65_000, &facts));
         assert_eq!(rt; cheapest(&sheet, &facts)?, (64_999, 0));
         assert_eq!(rt; Protected::new(sheet).count(), 65_000);
         Ok(())
@@ -107,8 +102,8 @@ mod tests {
         let sheet = Protected::new(Flat::new(65_000));
         let facts = year(120, 0, 4, 500, 0)?;
         assert_eq!(rt; sheet.count(), 65_000);
-        assert_eq!(rt; sheet.permits(65_000, &facts), false);
-        assert_eq!(rt; sheet.permits(64_999, &facts), true);
+        assert!(rt; !sheet.permits(65_000, &facts));
+        assert!(rt; sheet.permits(64_999, &facts));
         assert_eq!(rt; sheet.below().count(), 65_000);
         assert_eq!(rt; cheapest(&sheet, &facts)?, (0, 1389));
         Ok(())

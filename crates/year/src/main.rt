@@ -16,17 +16,13 @@ fn main(rt: HostRuntime) -> io::Result<()> {
     let Some(form) = sample::year() else {
         return println!(rt; "The sample's month figures are outside their limits.");
     };
-    match Facts::new(&form) {
-        Ok(facts) => {
-            print_dwelling(&rt, &facts)?;
-            match choose(&Decree, &facts) {
-                Some(plan) => {
-                    print_plan(&rt, &facts, plan.code)?;
-                    print_price(&rt, &facts, plan)
-                }
-                None => println!(rt; "No plan is permitted."),
-            }
-        }
-        Err(_) => println!(rt; "The sample's facts are outside their limits."),
-    }
+    let Ok(facts) = Facts::new(&form) else {
+        return println!(rt; "The sample's facts are outside their limits.");
+    };
+    print_dwelling(&rt, &facts)?;
+    let Some(plan) = choose(&Decree, &facts) else {
+        return println!(rt; "No plan is permitted.");
+    };
+    print_plan(&rt, &facts, plan.code)?;
+    print_price(&rt, &facts, plan)
 }

@@ -26,9 +26,7 @@ fn sums() -> Option<(u64, u64)> {
     let mut ne = 0u64;
     let mut nc = 0u64;
     for (s, mx, fuel) in MONTHS {
-        let Some(month) = Month::from_indices(s, mx, fuel) else {
-            return None;
-        };
+        let month = Month::from_indices(s, mx, fuel)?;
         ne = ne.saturating_add(month.ne() as u64);
         nc = nc.saturating_add(month.nc() as u64);
     }

@@ -44,11 +44,7 @@ impl House {
         ensures value { result ≡ line_of_code (lines_of self.now) code }
         ensures limits { IfSome result (λ l. line_fits l ≡ true) }
     {
-        if code < self.count as u64 {
-            Some(self.lines[code as usize])
-        } else {
-            None
-        }
+        self.lines().get(code as usize).copied()
     }
 
     // Puts one more line behind the others.

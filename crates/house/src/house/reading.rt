@@ -1,24 +1,19 @@
 // Reading a house sheet from bytes.
-ghost use Rattle.std.specs.Prelude.{◌≡◌, ◌+◌, ◌^◌, ◌<◌, ◌≤◌, length};
+ghost use Rattle.std.specs.Prelude.{◌≡◌, ◌+◌, ◌*◌, ◌^◌, ◌<◌, ◌≤◌, length};
 ghost use Rattle.house.specs.Lines.{rate_fits, line_fits};
 ghost use Rattle.house.specs.Reading.{at16, at32, rate_in, line_in, plan_of, entry_of, EntryRoom, read_of, reading_answer, reading_after, IsWriting, Faithful};
 ghost use Rattle.house.specs.Houses.{lines_of, lines_made};
 
 use super::House;
 use crate::field::first_field;
-use crate::line::{Entry, LINE_BYTES, Line, SheetFault};
+use crate::line::{END_TAG, LINE_BYTES, LINE_LENGTH, LINE_TAG, Line, SheetFault};
 use pricing::UnitRate;
 
-// The tag of a line's field.
-const LINE_TAG: u8 = 1;
-// The length of a line's content.
-const LINE_LENGTH: usize = 18;
-// The tag of the field that ends a sheet.
-const END_TAG: u8 = 127;
 // The most lines of a sheet.
 const MOST_LINES: usize = 8;
 
 // The number in two bytes from `at` on.
+// Offsets are the format's own, and each is read once.
 fn word_at(content: &[u8], at: usize) -> u16
     requires { at + 2 ≤ length content.now }
     ensures { result ≡ at16 content.now at }
@@ -84,38 +79,41 @@ fn fits(line: &Line) -> bool
         && rate_fits(line.night)
 }
 
-// The plan in a content of eighteen bytes, if its values are within their limits. Its field begins at the byte `at`.
-fn plan_in(content: &[u8], at: u64) -> Result<Entry, SheetFault>
+// The line in a content of eighteen bytes, if its values are within their limits. Its field begins at the byte `at`.
+fn plan_in(content: &[u8], at: u64) -> Result<Option<Line>, SheetFault>
     requires { length content.now ≡ 18 }
     ensures { result ≡ plan_of at (line_in content.now) }
 {
     let line = line_in(content);
     if fits(&line) {
-        Ok(Entry::Plan(line))
+        Ok(Some(line))
     } else {
         Err(SheetFault::ValueTooHigh(at))
     }
 }
 
-// What the field at the front of the bytes says, which begins at the byte `at` and has `count` lines before it.
-fn entry(left: &[u8], at: u64, count: usize) -> Result<Entry, SheetFault>
-    requires { at + length left.now < 2 ^ 64 }
-    ensures value { result ≡ entry_of count at left.now }
+// The line that the field at the front of the bytes is, or none where it ends the sheet. It has `count` lines before it.
+fn entry(left: &[u8], count: usize) -> Result<Option<Line>, SheetFault>
+    requires { 21 * count + length left.now < 2 ^ 64 }
+    ensures value { result ≡ entry_of count (21 * count) left.now }
     ensures room { EntryRoom count left.now result }
 {
+    let at = (LINE_BYTES * count) as u64;
     if left.is_empty() {
         return Err(SheetFault::MissingEnd(at));
     }
     if left[0] == LINE_TAG && count >= MOST_LINES {
         return Err(SheetFault::NinthLine(at));
     }
-    match first_field(left) {
-        None => Err(SheetFault::CutShort(at)),
-        Some((LINE_TAG, content, _)) if content.len() == LINE_LENGTH => plan_in(content, at),
-        Some((END_TAG, [], [])) if count == 0 => Err(SheetFault::NoLine(at)),
-        Some((END_TAG, [], [])) => Ok(Entry::End),
-        Some((END_TAG, [], _)) => Err(SheetFault::BytesBehind(at + 3)),
-        Some(_) => Err(SheetFault::UnknownField(at)),
+    let Some(field) = first_field(left) else {
+        return Err(SheetFault::CutShort(at));
+    };
+    match (field.tag, field.content) {
+        (LINE_TAG, content) if content.len() == LINE_LENGTH => plan_in(content, at),
+        (END_TAG, []) if !field.behind.is_empty() => Err(SheetFault::BytesBehind(at + 3)),
+        (END_TAG, []) if count == 0 => Err(SheetFault::NoLine(at)),
+        (END_TAG, []) => Ok(None),
+        _ => Err(SheetFault::UnknownField(at)),
     }
 }
 
@@ -126,13 +124,10 @@ impl House {
         ensures writing { IsWriting bytes.now (lines_made result) }
     {
         let mut house = House::new();
-        loop {
-            let at = LINE_BYTES * house.count;
-            match entry(&bytes[at..], at as u64, house.count)? {
-                Entry::Plan(line) => house.push(line),
-                Entry::End => return Ok(house),
-            }
+        while let Some(line) = entry(&bytes[LINE_BYTES * house.count..], house.count)? {
+            house.push(line);
         }
+        Ok(house)
     }
 
     // Reads the bytes of a sheet, whose lines then stand in place of those before. Refused bytes leave the lines as they are.

@@ -4,15 +4,16 @@ ghost use Rattle.house.specs.Writing.{line_bytes, written};
 ghost use Rattle.house.specs.Houses.{lines_of};
 
 use super::House;
-use crate::line::{LINE_BYTES, Line};
+use crate::line::{END_TAG, LINE_BYTES, LINE_LENGTH, LINE_TAG, Line};
 
 // The bytes of the field that ends a sheet.
-const END: [u8; 3] = [127, 0, 0];
+const END: [u8; 3] = [END_TAG, 0, 0];
 
 // The bytes of a line's field.
-pub fn line_bytes(line: &Line) -> [u8; 21]
+pub fn line_bytes(line: &Line) -> [u8; LINE_BYTES]
     ensures { result ≡ line_bytes line.now }
 {
+    let [l0, l1] = (LINE_LENGTH as u16).to_be_bytes();
     let [c0, c1, c2, c3] = line.charge.to_be_bytes();
     let [t0, t1] = line.charge_a_tenth.to_be_bytes();
     let [f0, f1] = line.free_tenths.to_be_bytes();
@@ -22,7 +23,7 @@ pub fn line_bytes(line: &Line) -> [u8; 21]
     let [n0, n1] = line.night.ne.to_be_bytes();
     let [n2, n3] = line.night.nc.to_be_bytes();
     [
-        1, 0, 18, c0, c1, c2, c3, t0, t1, f0, f1, p0, p1, d0, d1, d2, d3, n0, n1, n2, n3,
+        LINE_TAG, l0, l1, c0, c1, c2, c3, t0, t1, f0, f1, p0, p1, d0, d1, d2, d3, n0, n1, n2, n3,
     ]
 }
 
@@ -42,12 +43,13 @@ impl House {
         ensures count { result ≡ length (written (lines_of self.now)) }
         ensures bytes { place.new ≡ written (lines_of self.now) ++ drop result place.old }
     {
+        // Where the last line ends is where the end goes, so the place is counted and not cut into chunks.
         let mut at = 0;
         for line in self.lines() {
             put(place, at, &line_bytes(line));
             at += LINE_BYTES;
         }
         put(place, at, &END);
-        at + 3
+        at + END.len()
     }
 }

@@ -2,14 +2,14 @@ use Rattle.std.proofs.Common.{rules}
 use Rattle.cases.specs.Answering.{reading_answer}
 use Rattle.cases.proofs.answering.reading_answer.Goals as goal
 
-pub returns-in_default : goal.returns-in_default
+pub returns-in_err-opened : goal.returns-in_err-opened
 unfolding reading_answer
-returns-in_default c = search rules
+returns-in_err-opened c = search rules
 
-pub returns-in-Ok-read : goal.returns-in-Ok-read
+pub returns-in_err-read : goal.returns-in_err-read
 unfolding reading_answer
-returns-in-Ok-read c = search rules
+returns-in_err-read c = search rules
 
-pub returns-in-Err : goal.returns-in-Err
+pub returns : goal.returns
 unfolding reading_answer
-returns-in-Err c = search rules
+returns c = search rules

@@ -1,7 +1,6 @@
-use Rattle.std.proofs.Common.{◌≡◌, ◌+◌, ◌-◌, ◌*◌, [], ◌∷◌, ◌++◌, length, take, drop, Ok, Err, sym, ap, ◌∙◌, subst, arith}
+use Rattle.std.proofs.Common.{◌≡◌, ◌+◌, ◌-◌, ◌*◌, [], ◌∷◌, ◌++◌, length, take, drop, Ok, Err, sym, ap, ◌∙◌, subst, arith, Some, None}
 use Rattle.std.proofs.lemmas.List.{take_rest, length-drop, drop-drop}
 use Rattle.std.proofs.lemmas.Result.{err_from_is_err_and}
-use Rattle.house.specs.declared.line.Entry.TheVariants.{Plan, End}
 use Rattle.house.specs.Reading.{EntryRoom, read_on, read_of, IsWriting}
 use Rattle.house.specs.Houses.{lines_of, lines_made}
 use Rattle.house.proofs.Accepted.{read-written}
@@ -29,11 +28,11 @@ pub loop-line-preserved : goal.loop-line-preserved
 loop-line-preserved c =
     let b = c.args.bytes.now in
     let h = c.loop-line.house in
-    let l = c.in-Plan.line in
+    let l = c.in-Some.line in
     let left = take (length b - 21 * h.count) (drop (21 * h.count) b) in
     let v = c.in_ok-line.ensures.value in
-    let room : EntryRoom h.count left (Ok (Plan l)) = subst (λ e. EntryRoom h.count left (Ok e)) c.in-Plan.is c.in_ok-line.ensures.room in
-    let t = turned b h (Ok (Plan l)) (ap Ok (sym c.in-Plan.is) ∙ v) in
+    let room : EntryRoom h.count left (Ok (Some l)) = subst (λ e. EntryRoom h.count left (Ok e)) c.in-Some.is c.in_ok-line.ensures.room in
+    let t = turned b h (Ok (Some l)) (ap Ok (sym c.in-Some.is) ∙ v) in
     let more = c.push.ensures.count in
     let d : length left ≡ length b - 21 * h.count = ap length (take_rest b (21 * h.count)) ∙ length-drop (21 * h.count) b in
     let i : 8 - h.count ≡ 9 - c.push.new.self.count = omega arith in
@@ -44,8 +43,8 @@ loop-line-preserved c =
           ∙ ap (λ bs. read_on (9 - c.push.new.self.count) (lines_of c.push.new.self) bs) (drop-drop 21 (21 * h.count) b ∙ ap (λ k. drop k b) j),
     )
 
-pub returns-in-End : goal.returns-in-End
-returns-in-End c =
+pub returns : goal.returns
+returns c =
     let e : Ok (lines_of c.loop-line.house) ≡ read_of c.args.bytes.now =
-    sym (c.loop-line.invariant.1 ∙ turned c.args.bytes.now c.loop-line.house (Ok End) (ap Ok (sym c.in-End.is) ∙ c.in_ok-line.ensures.value)) in
+    sym (c.loop-line.invariant.1 ∙ turned c.args.bytes.now c.loop-line.house (Ok None) (ap Ok (sym c.in_default.is) ∙ c.in_ok-line.ensures.value)) in
     record { value = e; writing = subst (IsWriting c.args.bytes.now) (sym e) (read-written c.args.bytes.now (λ i. (c.type_inv.bytes i).fits)) }

@@ -1,22 +1,19 @@
-use Rattle.std.proofs.Common.{◌≡◌, true, false, ltb, length, get_or, Some, sym, ap, subst, arith}
+use Rattle.std.proofs.Common.{rules, ◌≡◌, ℕ, refl, true, false, cond, List, ltb, length, Some, None, IfSome, sym, subst, arith}
 use Rattle.std.proofs.lemmas.Bool.Decides.{nat_tests}
-use Rattle.std.proofs.lemmas.List.{length-take-le, get_or-take}
-use Rattle.house.specs.Lines.{line_fits, no_line, line_at}
+use Rattle.house.specs.declared.line.Line.{Line}
+use Rattle.house.specs.Lines.{line_fits, line_at, LineLimits}
+use Rattle.house.specs.Tariffs.{line_of_code}
 use Rattle.house.specs.Houses.{lines_of}
 use Rattle.house.proofs.house.House.line.Goals as goal
 
-pub returns-then-code-self : goal.returns-then-code-self
-returns-then-code-self c =
-    let h = c.args.self.now in
-    let code = c.args.code in
-    let e : length (lines_of h) ≡ h.count = length-take-le h.count h.lines (omega arith) in
-    let t : ltb code (length (lines_of h)) ≡ true = grind (arith, nat_tests) in
-    let g : get_or h.lines code no_line ≡ line_at (lines_of h) code = sym (get_or-take h.count h.lines code no_line (omega arith)) in
-    record { value = rw t (ap Some g); limits = subst (λ l. line_fits l ≡ true) (sym g) (h.limits code (omega arith)) }
+-- each line of a code is within its limits
+fits : (ls : List Line) (code : ℕ) → LineLimits ls → IfSome (line_of_code ls code) (λ l. line_fits l ≡ true)
+fits ls code h =
+    elim (ltb code (length ls)) as (λ b. (b ≡ true → line_fits (line_at ls code) ≡ true) → IfSome (cond b (Some (line_at ls code)) None) (λ l. line_fits l ≡ true))
+    [ true ↦ (λ w. w refl) | false ↦ (λ w. tt) ] (λ t. h code (grind (arith, nat_tests)))
 
-pub returns-else-code-self : goal.returns-else-code-self
-returns-else-code-self c =
-    let h = c.args.self.now in
-    let e : length (lines_of h) ≡ h.count = length-take-le h.count h.lines (omega arith) in
-    let f : ltb c.args.code (length (lines_of h)) ≡ false = grind (arith, nat_tests) in
-    record { value = rw f; limits = tt }
+pub returns-clause-limits : goal.returns-clause-limits
+returns-clause-limits c =
+    let ls = lines_of c.args.self.now in
+    let v : c.copied.result ≡ line_of_code ls c.args.code = search rules in
+    subst (λ o. IfSome o (λ l. line_fits l ≡ true)) (sym v) (fits ls c.args.code c.args.self.now.limits)

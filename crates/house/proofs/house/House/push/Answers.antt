@@ -1,4 +1,4 @@
-use Rattle.std.proofs.Common.{sym, refl, subst, arith, length-set}
+use Rattle.std.proofs.Common.{sym, subst, arith, length-set}
 use Rattle.std.proofs.lemmas.List.{take_more_set}
 use Rattle.house.specs.Lines.{LineLimits}
 use Rattle.house.specs.Houses.{lines_of}
@@ -9,8 +9,3 @@ pub invariant_of-self : goal.invariant_of-self
 invariant_of-self c =
     let h = c.args.self.now in
     let t = take_more_set h.lines h.count c.args.line (omega arith) in record { room = simp length-set h.room; few = omega arith; limits = subst LineLimits (sym t) (limits-push (lines_of h) c.args.line h.limits c.requires.1) }
-
-pub returns : goal.returns
-returns c =
-    let h = c.args.self.now in
-    record { lines = take_more_set h.lines h.count c.args.line (omega arith); count = refl }

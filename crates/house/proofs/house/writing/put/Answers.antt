@@ -2,5 +2,5 @@ use Rattle.std.proofs.Common.{rules}
 use Rattle.std.proofs.lemmas.Slice.{overwrites}
 use Rattle.house.proofs.house.writing.put.Goals as goal
 
-pub returns : goal.returns
-returns c = record { front = search (rules, overwrites); rest = search (rules, overwrites) }
+pub returns-clause-rest : goal.returns-clause-rest
+returns-clause-rest c = search (rules, overwrites)
