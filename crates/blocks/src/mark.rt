@@ -1,30 +1,22 @@
-// The first byte of a block.
+// The first byte of a block: whether it holds a row.
 ghost use Rattle.std.specs.Prelude.{◌≡◌, ◌≤◌};
+ghost use Rattle.std.specs.Option.{option_map};
 ghost use Rattle.blocks.specs.Marks.{mark_byte, is_row};
 
-// Whether a block holds a row.
-#[derive(Clone, Copy)]
-pub enum Mark {
-    NoRow,
-    Row,
+// The byte of a block that holds this row, or none.
+pub fn mark_of(row: Option<&[u8; 128]>) -> u8
+    ensures value { result ≡ mark_byte (option_map (λ r. r.now) row.entry) }
+    ensures bound { result ≤ 1 }
+{
+    match row {
+        None => 0,
+        Some(_) => 1,
+    }
 }
 
-impl Mark {
-    // The byte that stands for the mark.
-    pub fn byte(self) -> u8
-        ensures value { result ≡ mark_byte self }
-        ensures bound { result ≤ 1 }
-    {
-        match self {
-            Mark::NoRow => 0,
-            Mark::Row => 1,
-        }
-    }
-
-    // Whether a block with this first byte holds a row.
-    pub fn is_row(byte: u8) -> bool
-        ensures { result ≡ is_row byte }
-    {
-        byte == 1
-    }
+// Whether a block with this first byte holds a row.
+pub fn is_row(byte: u8) -> bool
+    ensures { result ≡ is_row byte }
+{
+    byte == 1
 }

@@ -13,12 +13,12 @@ pub enum BoardFault {
     Unfit(u64),
 }
 
-impl BoardFault {
-    // The refusal with its number, layer and place.
-    pub fn refusal(self) -> Refusal
-        ensures { result ≡ board_refusal self }
-    {
-        let (number, place) = match self {
+// The refusal that a fault is, with its number, layer and place.
+impl From<BoardFault> for Refusal {
+    ghost from_gives = { λ fault refusal. refusal ≡ board_refusal fault };
+
+    fn from(fault: BoardFault) -> Refusal {
+        let (number, place) = match fault {
             BoardFault::Outside(account) => (3, account),
             BoardFault::Full(account) => (6, account),
             BoardFault::Unfit(length) => (22, length),

@@ -18,6 +18,7 @@ pub trait Board {
         ensures { result ≡ (meaning self.now).limit };
 
     // Copies the row of a number into the place and says yes, or says no and leaves the place.
+    // A board has no memory to hand a row out by, so it goes into the caller's place.
     fn read(&mut self, number: u64, place: &mut [u8; 128]) -> Result<bool, BoardFault>
         ensures answer { result ≡ read_answer (meaning self.old) number }
         ensures place { place.new ≡ read_place (meaning self.old) number place.old }

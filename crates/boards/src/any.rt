@@ -6,7 +6,7 @@ use board::{Board, BoardFault};
 use journal::Journal;
 use table::Table;
 
-// A board of either kind.
+// A board of either kind. An enum and not a boxed board, since the kinds are closed and a made cabinet asks for no heap.
 #[derive(Drop)]
 pub enum AnyBoard {
     Table(Table),

@@ -6,7 +6,7 @@ mod tests {
     use board::{Board, BoardFault};
     use boardlaw::{Change, apply};
     use journal::{Journal, JournalPlan};
-    use refusal::Layer;
+    use refusal::{Layer, Refusal};
     use std::alloc::Global;
     use std::process::Abort;
     use std::test::Fail;
@@ -24,21 +24,21 @@ mod tests {
 
     // The refusal of this number, layer and place.
     fn is_refused(rt: &impl Abort, fault: BoardFault, number: u8, place: u64) -> Result<(), Fail> {
-        let refusal = fault.refusal();
+        let refusal = Refusal::from(fault);
         assert_eq!(rt; refusal.number, number);
         assert!(rt; refusal.layer == Layer::Board);
         assert_eq!(rt; refusal.place, place);
         Ok(())
     }
 
-    fn refuses(
+    fn refuses<T: Drop>(
         rt: &impl Abort,
-        answer: Result<(), BoardFault>,
+        answer: Result<T, BoardFault>,
         number: u8,
         place: u64,
     ) -> Result<(), Fail> {
         match answer {
-            Ok(()) => Err(Fail::new("accepted")),
+            Ok(_) => Err(Fail::new("accepted")),
             Err(fault) => is_refused(rt, fault, number, place),
         }
     }
@@ -66,10 +66,7 @@ mod tests {
 
     fn refuses_outside<B: Board>(rt: &impl Abort, board: &mut B, number: u64) -> Result<(), Fail> {
         let mut place = [255; 128];
-        match board.read(number, &mut place) {
-            Ok(_) => return Err(Fail::new("read outside")),
-            Err(fault) => is_refused(rt, fault, 3, number)?,
-        }
+        refuses(rt, board.read(number, &mut place), 3, number)?;
         assert!(rt; place == [255; 128]);
         refuses(rt, board.store(number, &[1; 128]), 3, number)?;
         refuses(rt, board.clear(number), 3, number)
@@ -135,18 +132,16 @@ mod tests {
 
     // A table over a memory of old bytes, each of which looks like the mark of a row.
     fn table(heap: Global, capacity: u64, len: u64) -> Result<Table, Fail> {
-        match TablePlan::new(capacity, vec![in heap; 1u8; len as usize]?) {
-            Ok(plan) => Ok(plan.make()),
-            Err(_) => Err(Fail::new("unfit")),
-        }
+        TablePlan::new(capacity, vec![in heap; 1u8; len as usize]?)
+            .map(|plan| plan.make())
+            .map_err(|_| Fail::new("unfit"))
     }
 
     // A journal over a memory of old bytes, each of which looks like the mark of a row.
     fn journal(heap: Global, capacity: u64, limit: u64, len: u64) -> Result<Journal, Fail> {
-        match JournalPlan::new(capacity, limit, vec![in heap; 1u8; len as usize]?) {
-            Ok(plan) => Ok(plan.make()),
-            Err(_) => Err(Fail::new("unfit")),
-        }
+        JournalPlan::new(capacity, limit, vec![in heap; 1u8; len as usize]?)
+            .map(|plan| plan.make())
+            .map_err(|_| Fail::new("unfit"))
     }
 
     #[test]

@@ -4,10 +4,9 @@ use Rattle.std.proofs.lemmas.List.{length-take, length-drop}
 use Rattle.std.proofs.lemmas.Bool.{and_parts, and_cases, ltb-true, ltb-false, eqb-true, eqb-false, cases_lt}
 use Rattle.std.proofs.lemmas.List.FromFn.{get_or-map-range_with_len}
 use Rattle.board.specs.Meaning.{standing}
-use Rattle.blocks.specs.Blocks.{block, with_block, Bytes}
+use Rattle.blocks.specs.Blocks.{block, with_block}
 use Rattle.blocks.specs.Marks.{is_row}
 use Rattle.blocks.proofs.Writes.{block-other, length-with_block}
-use Rattle.blocks.proofs.ByteLists.{bytes-block, bytes-with}
 use Rattle.journal.specs.Replay.{Note, Leads}
 use Rattle.journal.specs.Entries.{entry_number, note_of, notes, entry_rows, latest_number}
 use Rattle.journal.specs.Noting.{length-notes, notes-push}
@@ -18,12 +17,11 @@ pub record Sweeping (capacity used : ℕ) (bytes held index : List ℕ) (kept pl
   pub behind : kept ≤ place
   pub long : length held ≡ length bytes
   pub packing : Packing capacity (notes used bytes) (notes kept held) index place
-  pub small : Bytes bytes → Bytes held
   pub rest : (i : ℕ) → place ≤ i → i < used → block 131 i held ≡ block 131 i bytes
 
 pub sweeping-none : (capacity used : ℕ) (bytes index : List ℕ) → capacity ≤ length index → Leads capacity index (notes used bytes) → Sweeping capacity used bytes bytes index 0 0
 sweeping-none capacity used bytes index wide leads =
-    record { behind = omega arith; long = refl; packing = packing-none capacity (notes used bytes) index wide leads; small = λ p. p; rest = λ i h j. refl }
+    record { behind = omega arith; long = refl; packing = packing-none capacity (notes used bytes) index wide leads; rest = λ i h j. refl }
 
 pub sweeping-all : (capacity used : ℕ) (bytes held index : List ℕ) (kept place : ℕ) → Sweeping capacity used bytes held index kept place → used ≤ place
     → (entry_rows capacity kept held ≡ entry_rows capacity used bytes) × (kept ≡ standing (entry_rows capacity used bytes)) × Leads capacity index (notes kept held)
@@ -44,7 +42,7 @@ module _ (capacity used : ℕ) (bytes held index : List ℕ) (kept place : ℕ) 
 
   -- it is dropped, and the index is `index'` then
   passed : (index' : List ℕ) → Packing capacity (notes used bytes) (notes kept held) index' (place + 1) → Sweeping capacity used bytes held index' kept (place + 1)
-  passed index' packing = record { behind = omega (arith, s.behind); long = s.long; packing = packing; small = s.small; rest = λ i h j. s.rest i (omega arith) j }
+  passed index' packing = record { behind = omega (arith, s.behind); long = s.long; packing = packing; rest = λ i h j. s.rest i (omega arith) j }
 
   -- it is the latest of its number, and holds a row or not
   sweeping-latest : (row : Bool) → is_row (get_or (block 131 place held) 0 0) ≡ row → entry_number (block 131 place held) < capacity → get_or index (entry_number (block 131 place held)) 0 ≡ place + 1
@@ -63,7 +61,6 @@ module _ (capacity used : ℕ) (bytes held index : List ℕ) (kept place : ℕ) 
         packing =
             subst P (sym (notes-push kept e held fit block-long))
             (subst Q (length-notes kept held) (packing-keep capacity (notes used bytes) place ahead (note_of e) read (notes kept held) index s.packing (drop 3 e) inside latest (ap (λ b. cond b (Some (drop 3 e)) None) row)));
-        small = λ p. bytes-with (131 * kept) 131 e held (bytes-block 131 place held (s.small p)) (s.small p);
         rest = λ i h j. block-other 131 kept e held fit block-long i (λ q. omega (arith, s.behind)) (omega (arith, s.long)) ∙ s.rest i (omega arith) j;
       }
 

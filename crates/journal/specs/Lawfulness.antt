@@ -10,12 +10,12 @@ use Rattle.journal.specs.Latest.{rows_whole}
 
 pub journal-lawful : (b : Journal) → Lawful (journal_meaning b)
 journal-lawful b =
-    let bytes = vec_items b.memory in
+    let bytes = vec_items b.entries.blocks.memory in
     record {
       some = b.some;
       within = b.under;
-      most = b.few;
-      long = rows_long b.capacity (notes b.used bytes);
+      most = b.entries.few;
+      long = rows_long b.entries.capacity (notes b.used bytes);
       bounded = omega (arith, b.count, b.bounded);
-      whole = rows_whole b.capacity b.used bytes (omega (arith, b.within, b.fits, b.memory.ok.0)) b.bytes;
+      whole = rows_whole b.entries.capacity b.used bytes (omega (arith, b.within, b.entries.blocks.fits, b.entries.blocks.memory.ok.0)) b.entries.blocks.bytes;
     }

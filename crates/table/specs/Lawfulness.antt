@@ -10,12 +10,12 @@ use Rattle.table.specs.SlotRows.{length-slot_rows, slot_rows-whole}
 
 pub table-lawful : (b : Table) → Lawful (table_meaning b)
 table-lawful b =
-    let bytes = vec_items b.memory in
+    let bytes = vec_items b.slots.memory in
     record {
       some = b.some;
       within = omega arith;
       most = b.few;
       long = length-slot_rows b.capacity bytes;
       bounded = omega (arith, standing-le (slot_rows b.capacity bytes), length-slot_rows b.capacity bytes);
-      whole = slot_rows-whole b.capacity bytes (omega (arith, b.fits, b.memory.ok.0)) b.bytes;
+      whole = slot_rows-whole b.capacity bytes (omega (arith, b.fits, b.slots.fits, b.slots.memory.ok.0)) b.slots.bytes;
     }

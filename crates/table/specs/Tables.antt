@@ -5,4 +5,4 @@ use Rattle.table.specs.declared.table.Table.{Table}
 use Rattle.table.specs.Slots.{slot_rows}
 
 abbrev pub table_meaning : Table → BoardMeaning Row
-table_meaning b = holding b.capacity b.capacity (slot_rows b.capacity (vec_items b.memory))
+table_meaning b = holding b.capacity b.capacity (slot_rows b.capacity (vec_items b.slots.memory))

@@ -3,5 +3,5 @@
 
 pub mod table;
 
-pub use table::Table;
 pub use table::plan::TablePlan;
+pub use table::{SLOT, Table};

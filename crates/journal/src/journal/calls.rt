@@ -2,18 +2,16 @@
 ghost use Rattle.std.specs.Prelude.{◌≡◌, ◌/◌, ◌<◌, ◌≤◌, false, length, is_some, IfSome, vec_len, slice_set};
 ghost use Rattle.std.specs.Option.{option_map};
 ghost use Rattle.board.specs.Meaning.{empty, row_at, with_row, full, standing};
-ghost use Rattle.blocks.specs.Marks.{marked};
 ghost use Rattle.journal.specs.Journals.{journal_meaning};
 ghost use Rattle.journal.specs.Lawfulness.{journal-lawful};
 
-use crate::entries::{ENTRY, drop_stale};
+use crate::entries::Entries;
 use crate::journal::Journal;
-use blocks::{Mark, read_block, write_block};
-use board::{Board, BoardFault};
+use board::{Board, BoardFault, copy_row, inside};
 
 impl Journal {
     // A board without rows over a memory, whatever it held.
-    pub(crate) fn without_rows(mut memory: Vec<u8>, capacity: u64, limit: u64) -> Journal
+    pub(crate) fn without_rows(memory: Vec<u8>, capacity: u64, limit: u64) -> Journal
         requires some { 1 ≤ limit }
         requires under { limit ≤ capacity }
         requires few { capacity ≤ 4096 }
@@ -21,14 +19,9 @@ impl Journal {
         requires most { vec_len memory / 131 ≤ 65535 }
         ensures { journal_meaning result ≡ empty capacity limit }
     {
-        memory.fill(0);
-        let places = memory.len() / ENTRY;
         Journal {
-            memory,
-            latest: [0; 4096],
-            capacity,
+            entries: Entries::unused(memory, capacity),
             limit,
-            places,
             used: 0,
             filled: 0,
         }
@@ -42,57 +35,48 @@ impl Journal {
     }
 
     // The row of a number.
-    fn row_at(&self, number: u64) -> Option<&[u8]>
-        requires inside { number < self.now.capacity }
+    fn row_at(&self, number: usize) -> Option<&[u8]>
+        requires inside { number < self.now.entries.capacity }
         ensures value { option_map (λ x. x.now) result ≡ row_at (journal_meaning self.now) number }
         ensures len { IfSome result (λ x. length x.now ≡ 128) }
     {
-        let latest = self.latest[number as usize] as usize;
-        if latest == 0 {
-            return None;
-        }
-        let entry = read_block(&self.memory, ENTRY, latest - 1);
-        if !Mark::is_row(entry[0]) {
-            return None;
-        }
-        Some(&entry[3..ENTRY])
+        let place = self.entries.latest(number)?;
+        self.entries.row(place)
     }
 
     // Drops stale entries where none is free.
     fn make_room(&mut self)
         ensures same { journal_meaning self.new ≡ journal_meaning self.old }
-        ensures room { self.new.used < self.new.places }
+        ensures room { self.new.used < self.new.entries.blocks.count }
     {
-        if self.used == self.places {
-            self.used = drop_stale(&mut self.memory, &mut self.latest, self.capacity, self.used);
+        if self.used == self.entries.places() {
+            self.used = self.entries.drop_stale(self.used);
         }
     }
 
     // Writes one entry more, after which `filled` rows stand.
-    fn append(&mut self, number: u64, mark: Mark, row: &[u8; 128], filled: u64)
-        requires room { self.old.used < self.old.places }
-        requires inside { number < self.old.capacity }
-        requires count { filled ≡ standing (slice_set (journal_meaning self.old).rows number (marked mark row.now)) }
+    fn append(&mut self, number: usize, row: Option<&[u8; 128]>, filled: u64)
+        requires room { self.old.used < self.old.entries.blocks.count }
+        requires inside { number < self.old.entries.capacity }
+        requires count { filled ≡ standing (slice_set (journal_meaning self.old).rows number (option_map (λ r. r.now) row)) }
         requires bounded { filled ≤ self.old.limit }
-        ensures after { journal_meaning self.new ≡ with_row (journal_meaning self.old) number (marked mark row.now) }
+        ensures after { journal_meaning self.new ≡ with_row (journal_meaning self.old) number (option_map (λ r. r.now) row.entry) }
     {
-        let head = [mark.byte(), (number / 256) as u8, (number % 256) as u8];
-        write_block(&mut self.memory, self.used, &head, row);
+        self.entries.write(self.used, number, row);
         self.used += 1;
-        self.latest[number as usize] = self.used as u16;
         self.filled = filled;
     }
 
-    // Sets or removes the row of a number, where one stood or not.
-    fn write(&mut self, number: u64, stood: bool, mark: Mark, row: &[u8; 128])
-        requires inside { number < self.old.capacity }
+    // Sets the row of a number or removes it, where one stood or not.
+    fn write(&mut self, number: usize, stood: bool, row: Option<&[u8; 128]>)
+        requires inside { number < self.old.entries.capacity }
         requires before { stood ≡ is_some (row_at (journal_meaning self.old) number) }
         requires room { full (journal_meaning self.old) number ≡ false }
-        ensures after { journal_meaning self.new ≡ with_row (journal_meaning self.old) number (marked mark row.now) }
+        ensures after { journal_meaning self.new ≡ with_row (journal_meaning self.old) number (option_map (λ r. r.now) row.entry) }
     {
         self.make_room();
-        let filled = self.filled + mark.byte() as u64 - stood as u64;
-        self.append(number, mark, row, filled);
+        let filled = self.filled + row.is_some() as u64 - stood as u64;
+        self.append(number, row, filled);
     }
 }
 
@@ -103,7 +87,7 @@ impl Board for Journal {
     ghost lawful = { λ b. journal-lawful b };
 
     fn capacity(&self) -> u64 {
-        self.capacity
+        self.entries.capacity()
     }
 
     fn limit(&self) -> u64 {
@@ -111,36 +95,24 @@ impl Board for Journal {
     }
 
     fn read(&mut self, number: u64, place: &mut [u8; 128]) -> Result<bool, BoardFault> {
-        if number >= self.capacity {
-            return Err(BoardFault::Outside(number));
-        }
-        match self.row_at(number) {
-            Some(row) => {
-                place.copy_from_slice(row);
-                Ok(true)
-            }
-            None => Ok(false),
-        }
+        let number = inside(number, self.capacity())?;
+        Ok(copy_row(self.row_at(number), place))
     }
 
     fn store(&mut self, number: u64, row: &[u8; 128]) -> Result<(), BoardFault> {
-        if number >= self.capacity {
-            return Err(BoardFault::Outside(number));
-        }
-        let stood = self.row_at(number).is_some();
+        let index = inside(number, self.capacity())?;
+        let stood = self.row_at(index).is_some();
         if !stood && self.filled >= self.limit {
             return Err(BoardFault::Full(number));
         }
-        self.write(number, stood, Mark::Row, row);
+        self.write(index, stood, Some(row));
         Ok(())
     }
 
     fn clear(&mut self, number: u64) -> Result<(), BoardFault> {
-        if number >= self.capacity {
-            return Err(BoardFault::Outside(number));
-        }
+        let number = inside(number, self.capacity())?;
         if self.row_at(number).is_some() {
-            self.write(number, true, Mark::NoRow, &[0; 128]);
+            self.write(number, true, None);
         }
         Ok(())
     }

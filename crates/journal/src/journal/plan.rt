@@ -4,8 +4,9 @@ ghost use Rattle.board.specs.Meaning.{empty};
 ghost use Rattle.journal.specs.Entries.{journal_check};
 ghost use Rattle.journal.specs.Journals.{journal_meaning};
 
+use crate::entries::ENTRY;
 use crate::journal::Journal;
-use board::BoardFault;
+use board::{BoardFault, MOST_NUMBERS};
 
 // A capacity, a limit and a memory that passed the check, so that the making cannot fail.
 #[derive(Drop)]
@@ -25,9 +26,10 @@ impl JournalPlan {
     pub fn check(capacity: u64, limit: u64, len: u64) -> Result<(), BoardFault>
         ensures { result ≡ journal_check capacity limit len }
     {
-        let places = len / 131;
+        let most = MOST_NUMBERS as u64;
+        let places = len / ENTRY as u64;
         if capacity < 1
-            || capacity > 4096
+            || capacity > most
             || limit < 1
             || limit > capacity
             || places <= limit
@@ -46,6 +48,7 @@ impl JournalPlan {
     ) -> Result<JournalPlan, (BoardFault, Vec<u8>)>
         ensures { MatchResult result (λ p. (journal_check capacity limit (vec_len memory) ≡ Ok tt) × (p.capacity ≡ capacity) × (p.limit ≡ limit) × (p.memory ≡ memory)) (λ e. (journal_check capacity limit (vec_len memory) ≡ Err e.0) × (e.1 ≡ memory)) }
     {
+        // Both arms take the memory, so that `map` and `map_err` cannot share it.
         match JournalPlan::check(capacity, limit, memory.len() as u64) {
             Ok(()) => Ok(JournalPlan {
                 memory,

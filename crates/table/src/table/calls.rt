@@ -2,49 +2,48 @@
 ghost use Rattle.std.specs.Prelude.{◌≡◌, ◌*◌, ◌<◌, ◌≤◌, false, length, IfSome, vec_len};
 ghost use Rattle.std.specs.Option.{option_map};
 ghost use Rattle.board.specs.Meaning.{empty, row_at, with_row, full};
-ghost use Rattle.blocks.specs.Marks.{marked};
 ghost use Rattle.table.specs.Tables.{table_meaning};
 ghost use Rattle.table.specs.Lawfulness.{table-lawful};
 
 use crate::table::Table;
-use blocks::{Mark, read_block, write_block};
-use board::{Board, BoardFault};
-
-// The bytes of a slot: a mark and a row.
-const SLOT: usize = 129;
+use blocks::{Blocks, is_row, mark_of};
+use board::{Board, BoardFault, copy_row, inside};
 
 impl Table {
     // A board without rows over a memory, whatever it held.
-    pub(crate) fn without_rows(mut memory: Vec<u8>, capacity: u64) -> Table
+    pub(crate) fn without_rows(memory: Vec<u8>, capacity: u64) -> Table
         requires some { 1 ≤ capacity }
         requires few { capacity ≤ 4096 }
         requires fits { 129 * capacity ≤ vec_len memory }
         ensures { table_meaning result ≡ empty capacity capacity }
     {
-        memory.fill(0);
-        Table { memory, capacity }
+        Table {
+            slots: Blocks::zeros(memory),
+            capacity,
+        }
     }
 
     // The row of a number.
-    fn row_at(&self, number: u64) -> Option<&[u8]>
+    fn row_at(&self, number: usize) -> Option<&[u8]>
         requires inside { number < self.now.capacity }
         ensures value { option_map (λ x. x.now) result ≡ row_at (table_meaning self.now) number }
         ensures len { IfSome result (λ x. length x.now ≡ 128) }
     {
-        let slot = read_block(&self.memory, SLOT, number as usize);
-        if !Mark::is_row(slot[0]) {
+        let slot = self.slots.read(number);
+        if !is_row(slot[0]) {
             return None;
         }
-        Some(&slot[1..SLOT])
+        Some(&slot[1..])
     }
 
-    // Writes the slot of a number. No call finds a table full.
-    fn write_slot(&mut self, number: u64, mark: Mark, row: &[u8; 128])
+    // Sets the row of a number, or removes it. No call finds a table full.
+    fn write_slot(&mut self, number: usize, row: Option<&[u8; 128]>)
         requires inside { number < self.old.capacity }
-        ensures after { table_meaning self.new ≡ with_row (table_meaning self.old) number (marked mark row.now) }
+        ensures after { table_meaning self.new ≡ with_row (table_meaning self.old) number (option_map (λ r. r.now) row.entry) }
         ensures room { full (table_meaning self.old) number ≡ false }
     {
-        write_block(&mut self.memory, number as usize, &[mark.byte()], row);
+        let mark = mark_of(row);
+        self.slots.write(number, &[mark], row.unwrap_or(&[0; 128]));
     }
 }
 
@@ -63,31 +62,19 @@ impl Board for Table {
     }
 
     fn read(&mut self, number: u64, place: &mut [u8; 128]) -> Result<bool, BoardFault> {
-        if number >= self.capacity {
-            return Err(BoardFault::Outside(number));
-        }
-        match self.row_at(number) {
-            Some(row) => {
-                place.copy_from_slice(row);
-                Ok(true)
-            }
-            None => Ok(false),
-        }
+        let number = inside(number, self.capacity)?;
+        Ok(copy_row(self.row_at(number), place))
     }
 
     fn store(&mut self, number: u64, row: &[u8; 128]) -> Result<(), BoardFault> {
-        if number >= self.capacity {
-            return Err(BoardFault::Outside(number));
-        }
-        self.write_slot(number, Mark::Row, row);
+        let number = inside(number, self.capacity)?;
+        self.write_slot(number, Some(row));
         Ok(())
     }
 
     fn clear(&mut self, number: u64) -> Result<(), BoardFault> {
-        if number >= self.capacity {
-            return Err(BoardFault::Outside(number));
-        }
-        self.write_slot(number, Mark::NoRow, &[0; 128]);
+        let number = inside(number, self.capacity)?;
+        self.write_slot(number, None);
         Ok(())
     }
 }

@@ -4,8 +4,8 @@ ghost use Rattle.board.specs.Meaning.{empty};
 ghost use Rattle.table.specs.Slots.{table_check};
 ghost use Rattle.table.specs.Tables.{table_meaning};
 
-use crate::table::Table;
-use board::BoardFault;
+use crate::table::{SLOT, Table};
+use board::{BoardFault, MOST_NUMBERS};
 
 // A capacity and a memory that passed the check, so that the making cannot fail.
 #[derive(Drop)]
@@ -17,12 +17,14 @@ pub struct TablePlan {
     ghost fits: { 129 * capacity ≤ vec_len memory },
 }
 
+// A journal's plan has a limit and another rule for its memory: a trait over both would name each figure again.
 impl TablePlan {
     // Whether a memory of `len` bytes can be a table board of this capacity; the memory need not be at hand.
     pub fn check(capacity: u64, len: u64) -> Result<(), BoardFault>
         ensures { result ≡ table_check capacity len }
     {
-        if capacity < 1 || capacity > 4096 || len < 129 * capacity {
+        let most = MOST_NUMBERS as u64;
+        if capacity < 1 || capacity > most || len < SLOT as u64 * capacity {
             return Err(BoardFault::Unfit(len));
         }
         Ok(())
@@ -32,6 +34,7 @@ impl TablePlan {
     pub fn new(capacity: u64, memory: Vec<u8>) -> Result<TablePlan, (BoardFault, Vec<u8>)>
         ensures { MatchResult result (λ p. (table_check capacity (vec_len memory) ≡ Ok tt) × (p.capacity ≡ capacity) × (p.memory ≡ memory)) (λ e. (table_check capacity (vec_len memory) ≡ Err e.0) × (e.1 ≡ memory)) }
     {
+        // Both arms take the memory, so that `map` and `map_err` cannot share it.
         match TablePlan::check(capacity, memory.len() as u64) {
             Ok(()) => Ok(TablePlan { memory, capacity }),
             Err(fault) => Err((fault, memory)),

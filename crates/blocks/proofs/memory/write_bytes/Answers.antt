@@ -1,6 +1,6 @@
 use Rattle.std.proofs.Common.{refl, arith}
 use Rattle.blocks.proofs.Writes.{put-bytes}
-use Rattle.blocks.proofs.write_bytes.Goals as goal
+use Rattle.blocks.proofs.memory.write_bytes.Goals as goal
 
 pub returns : goal.returns
 returns c = record {
