@@ -7,8 +7,8 @@ ghost use Rattle.account.specs.Balances.{balance_fits};
 use crate::state::State;
 use facts::Profile;
 
-// An account: the profile of its dwelling, the first month that is not yet settled, for each register the index last read and the kWh that wait to be settled, and the balance in cents. Registers go per circuit, by day then by night.
-#[derive(Clone, Copy)]
+// An account: the profile of its dwelling, the first month that is not yet settled, for each register the index last read and the kWh that wait to be settled, and the balance in cents. Registers go per circuit, by day then by night; indices and waiting kWh stand apart, as in the row, whose fields they are.
+#[derive(Clone, Copy, PartialEq, Eq, Debug)]
 pub struct Account {
     pub state: State,
     pub profile: Profile,

@@ -9,5 +9,5 @@ const MOST_BALANCE: i64 = 1_000_000_000_000;
 pub(crate) fn balance_fits(balance: i64) -> bool
     ensures { result ≡ balance_fits balance }
 {
-    -MOST_BALANCE <= balance && balance <= MOST_BALANCE
+    (-MOST_BALANCE..=MOST_BALANCE).contains(&balance)
 }

@@ -22,8 +22,8 @@ pub(crate) const LAST_MONTH: u64 = 1_199;
 fn period_fits(next: u16, end: u64) -> bool
     ensures { result ≡ period_fits next end }
 {
-    let next = next as u64;
-    next <= end && end - next < MOST_MONTHS
+    let next = u64::from(next);
+    (next..next + MOST_MONTHS).contains(&end)
 }
 
 impl Account {
@@ -35,7 +35,7 @@ impl Account {
         if !period_fits(self.next, end) {
             return Err(AccountFault::PeriodOutside);
         }
-        Ok((end - self.next as u64 + 1) as u8)
+        Ok((end - u64::from(self.next) + 1) as u8)
     }
 
     // The account after a settlement up to `end` of so many cents. This is the second half of settling.
@@ -53,10 +53,15 @@ impl Account {
         if !balance_fits(balance) {
             return Err(AccountFault::BalanceOutside);
         }
-        let indices = self.indices;
+        // `..self` does not reach the limits of an account, which are proved of each one made
+        let Account {
+            profile,
+            indices,
+            ..
+        } = self;
         Ok(Account {
             state,
-            profile: self.profile,
+            profile,
             next: end as u16 + 1,
             indices,
             waiting: [0; 12],
@@ -69,19 +74,24 @@ impl Account {
         ensures { made tenancy_of result ≡ paid cents (tenancy_of self) }
     {
         let state = self.state.after(EventKind::Payment)?;
-        if cents < 1 || cents > MOST_PAYMENT {
+        if !(1..=MOST_PAYMENT).contains(&cents) {
             return Err(AccountFault::PaymentOutside);
         }
         let balance = self.balance - cents as i64;
         if !balance_fits(balance) {
             return Err(AccountFault::BalanceOutside);
         }
-        let indices = self.indices;
-        let waiting = self.waiting;
+        let Account {
+            profile,
+            next,
+            indices,
+            waiting,
+            ..
+        } = self;
         Ok(Account {
             state,
-            profile: self.profile,
-            next: self.next,
+            profile,
+            next,
             indices,
             waiting,
             balance,

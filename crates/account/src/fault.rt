@@ -1,6 +1,10 @@
 // Why an account refuses an event, or a row is none.
 ghost use Rattle.std.specs.Prelude.{◌≡◌};
+ghost use Rattle.account.specs.declared.fault.AccountFault.TheVariants.{OutsideRules as Outside, BrokenRow as Broken};
 ghost use Rattle.account.specs.Faults.{fault_number};
+
+use common::UnknownNumber;
+use facts::FactsFault;
 
 // The causes; each is counted to the ledger, and its place is the number of the account.
 #[derive(Clone, Copy, PartialEq, Eq, Debug)]
@@ -27,12 +31,30 @@ pub enum AccountFault {
     BrokenRow,
 }
 
-impl AccountFault {
-    // The number of the refusal that this cause is.
-    pub fn number(self) -> u8
-        ensures { result ≡ fault_number self }
-    {
-        match self {
+// A profile outside its limits is outside the rules.
+impl From<FactsFault> for AccountFault {
+    ghost from_gives = { λ _ fault. fault ≡ Outside };
+
+    fn from(_outside: FactsFault) -> AccountFault {
+        AccountFault::OutsideRules
+    }
+}
+
+// A number that is no state stands in no row of an account.
+impl From<UnknownNumber> for AccountFault {
+    ghost from_gives = { λ _ fault. fault ≡ Broken };
+
+    fn from(_number: UnknownNumber) -> AccountFault {
+        AccountFault::BrokenRow
+    }
+}
+
+// The number of the refusal that a cause is.
+impl From<AccountFault> for u8 {
+    ghost from_gives = { λ fault number. number ≡ fault_number fault };
+
+    fn from(fault: AccountFault) -> u8 {
+        match fault {
             AccountFault::NotVacant => 4,
             AccountFault::OutsideRules => 5,
             AccountFault::Vacant => 7,

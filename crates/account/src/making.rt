@@ -29,13 +29,12 @@ impl Account {
         requires { (form.now.next ≤ 1200) × (balance_fits form.now.balance ≡ true) }
         ensures { made tenancy_of result ≡ registers_made form.now state (dwelling_of profile) }
     {
-        let Some(indices) = figures_from(Figure::Index, &profile.kinds, &form.indices) else {
-            return Err(AccountFault::BrokenRow);
-        };
-        let Some(waiting) = figures_from(Figure::Waiting(state), &profile.kinds, &form.waiting)
-        else {
-            return Err(AccountFault::BrokenRow);
-        };
+        let indices = figures_from(Figure::Index, &profile.kinds, &form.indices).ok_or(
+            AccountFault::BrokenRow,
+        )?;
+        let waiting = figures_from(Figure::Waiting(state), &profile.kinds, &form.waiting).ok_or(
+            AccountFault::BrokenRow,
+        )?;
         Ok(Account {
             state,
             profile,
@@ -53,12 +52,8 @@ impl Account {
         if form.next > MOST_NEXT || !balance_fits(form.balance) {
             return Err(AccountFault::BrokenRow);
         }
-        let Some(state) = State::from_number(form.state) else {
-            return Err(AccountFault::BrokenRow);
-        };
-        let Ok(profile) = Profile::new(&form.profile) else {
-            return Err(AccountFault::BrokenRow);
-        };
+        let state = State::try_from(form.state)?;
+        let profile = Profile::new(&form.profile).map_err(|_| AccountFault::BrokenRow)?;
         Account::with_registers(state, profile, form)
     }
 }

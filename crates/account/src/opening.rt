@@ -19,12 +19,10 @@ impl Account {
         ensures { made tenancy_of result ≡ opened form.now standing }
     {
         let state = standing.after(EventKind::Opening)?;
-        let Ok(profile) = Profile::new(&form.profile) else {
-            return Err(AccountFault::OutsideRules);
-        };
-        let Some(indices) = figures_from(Figure::Index, &profile.kinds, &form.indices) else {
-            return Err(AccountFault::OutsideRules);
-        };
+        let profile = Profile::new(&form.profile)?;
+        let indices = figures_from(Figure::Index, &profile.kinds, &form.indices).ok_or(
+            AccountFault::OutsideRules,
+        )?;
         if form.first > LAST_MONTH {
             return Err(AccountFault::OutsideRules);
         }

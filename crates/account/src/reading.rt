@@ -14,7 +14,7 @@ use crate::figure::Figure;
 use crate::registers::{MOST_KWH, figures_from, joined, kind_of, register_size};
 
 impl Account {
-    // What waits in each register after a reading of these indices, where that is within its limit.
+    // What waits in each register after a reading of these indices, where that is within its limit. Registers go by their index, which tells the circuit.
     fn waiting_after(&self, indices: &[u32; 12]) -> Option<[u32; 12]>
         requires { RegisterLimits Index self.now.profile.kinds indices.now }
         ensures value { result ≡ waiting_after (tenancy_of self.now) indices.now }
@@ -37,12 +37,13 @@ impl Account {
         ensures { made tenancy_of result ≡ read_to indices.now (tenancy_of self) }
     {
         let state = self.state.after(EventKind::Reading)?;
-        let Some(indices) = figures_from(Figure::Index, &self.profile.kinds, indices) else {
-            return Err(AccountFault::IndexOutside);
-        };
-        let Some(waiting) = self.waiting_after(&indices) else {
-            return Err(AccountFault::TooManyKwh);
-        };
+        let indices = figures_from(Figure::Index, &self.profile.kinds, indices).ok_or(
+            AccountFault::IndexOutside,
+        )?;
+        let waiting = self
+            .waiting_after(&indices)
+            .ok_or(AccountFault::TooManyKwh)?;
+        // Field by field: a literal of a struct with ghost fields takes no `..`.
         Ok(Account {
             state,
             profile: self.profile,

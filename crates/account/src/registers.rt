@@ -44,15 +44,15 @@ fn figure_fits(figure: Figure, kind: Kind, number: u64) -> bool
     ensures bound { result ≡ true → number ≤ 1000000 }
 {
     match (figure, kind) {
-        (Figure::Index, _) => number < register_size(kind) as u64,
+        (Figure::Index, _) => number < u64::from(register_size(kind)),
         (Figure::Waiting(State::Vacant), _) => false,
         (Figure::Waiting(State::Running), _) => number == 0,
         (Figure::Waiting(State::Ready), Kind::Unused) => number == 0,
-        (Figure::Waiting(State::Ready), _) => number <= MOST_KWH as u64,
+        (Figure::Waiting(State::Ready), _) => number <= u64::from(MOST_KWH),
     }
 }
 
-// The figures of twelve registers, where each may have its number.
+// The figures of twelve registers, where each may have its number. Registers go by their index, which tells the circuit.
 pub(crate) fn figures_from(
     figure: Figure,
     kinds: &[Kind; 6],

@@ -1,10 +1,11 @@
 // The states of an account, and which events each takes.
 ghost use Rattle.std.specs.Prelude.{◌≡◌};
-ghost use Rattle.common.specs.Numbering.{Numbered};
+ghost use Rattle.common.specs.Numbering.{Numbered, found_at};
 ghost use Rattle.account.specs.States.{state_number, state_at, after};
 
 use crate::event::EventKind;
 use crate::fault::AccountFault;
+use common::UnknownNumber;
 
 // What stands at a number: no account, one whose kWh are all settled, or one with a reading to settle.
 #[derive(Clone, Copy, PartialEq, Eq, Debug)]
@@ -14,30 +15,35 @@ pub enum State {
     Ready,
 }
 
-impl State {
-    // The state of a number, 0 to 2.
-    pub fn from_number(number: u64) -> Option<State>
-        ensures value { result ≡ state_at number }
-        ensures numbered { Numbered state_number number result }
-    {
+// The state of a number, 0 to 2.
+impl TryFrom<u64> for State {
+    type Error = UnknownNumber;
+
+    ghost try_from_gives = { λ n r. (r ≡ found_at n (state_at n)) × Numbered state_number n (state_at n) };
+
+    fn try_from(number: u64) -> Result<State, UnknownNumber> {
         match number {
-            0 => Some(State::Vacant),
-            1 => Some(State::Running),
-            2 => Some(State::Ready),
-            _ => None,
+            0 => Ok(State::Vacant),
+            1 => Ok(State::Running),
+            2 => Ok(State::Ready),
+            _ => Err(UnknownNumber { number }),
         }
     }
+}
 
-    pub fn number(self) -> u8
-        ensures { result ≡ state_number self }
-    {
-        match self {
+impl From<State> for u8 {
+    ghost from_gives = { λ state number. number ≡ state_number state };
+
+    fn from(state: State) -> u8 {
+        match state {
             State::Vacant => 0,
             State::Running => 1,
             State::Ready => 2,
         }
     }
+}
 
+impl State {
     // The state that follows an event, or why this state does not take it.
     pub fn after(self, event: EventKind) -> Result<State, AccountFault>
         ensures { result ≡ after self event }

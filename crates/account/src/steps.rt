@@ -14,10 +14,7 @@ use crate::state::State;
 pub fn standing(found: &Option<Account>) -> State
     ensures { result ≡ standing_of (option_map tenancy_of found.now) }
 {
-    match found {
-        Some(account) => account.state,
-        None => State::Vacant,
-    }
+    found.map_or(State::Vacant, |account| account.state)
 }
 
 // What stands at a number after an event, or why it is refused.

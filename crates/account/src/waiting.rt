@@ -6,6 +6,7 @@ ghost use Rattle.account.specs.Waiting.{waiting_on, waiting_in_all};
 
 use crate::account::Account;
 use crate::hours::Hours;
+use std::array;
 
 impl Account {
     // The kWh waiting on each circuit, as the facts of the period have them.
@@ -13,21 +14,13 @@ impl Account {
         ensures value { result ≡ waiting_on hours (tenancy_of self.now) }
         ensures limits { KwhLimits 6 self.now.profile.kinds result }
     {
-        let mut kwh = [0u32; 6];
-        for i in 0..6usize {
-            kwh[i] = self.waiting[hours.register(i)];
-        }
-        kwh
+        array::from_fn(|circuit| self.waiting[hours.register(circuit)])
     }
 
     // The kWh waiting on all circuits together, as the bill has them.
     pub fn waiting_in_all(&self, hours: Hours) -> u32
         ensures { result ≡ waiting_in_all hours (tenancy_of self.now) }
     {
-        let mut sum = 0;
-        for i in 0..6usize {
-            sum += self.waiting[hours.register(i)];
-        }
-        sum
+        self.waiting_on(hours).iter().sum()
     }
 }

@@ -45,10 +45,7 @@ mod tests {
 
     // The number of the refusal, or 0.
     fn refusal(r: Result<Account, AccountFault>) -> u8 {
-        match r {
-            Ok(_) => 0,
-            Err(fault) => fault.number(),
-        }
+        r.map_or_else(u8::from, |_| 0)
     }
 
     #[test]

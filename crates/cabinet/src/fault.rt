@@ -34,14 +34,14 @@ impl From<PostFault> for CabinetFault {
     }
 }
 
-impl CabinetFault {
-    // The refusal that this fault is.
-    pub fn refusal(self) -> Refusal
-        ensures { result ≡ cabinet_refusal self }
-    {
-        match self {
-            CabinetFault::Ledger(fault) => fault.refusal(),
-            CabinetFault::Post(fault) => fault.refusal(),
+// The refusal that a fault is.
+impl From<CabinetFault> for Refusal {
+    ghost from_gives = { λ fault refusal. refusal ≡ cabinet_refusal fault };
+
+    fn from(fault: CabinetFault) -> Refusal {
+        match fault {
+            CabinetFault::Ledger(fault) => fault.into(),
+            CabinetFault::Post(fault) => fault.into(),
             CabinetFault::NotPosted(account) => Refusal {
                 number: 12,
                 layer: Layer::Cabinet,

@@ -24,8 +24,6 @@ pub fn make_call<B: Board, S: Sheet>(cabinet: &mut Cabinet<B>, call: &Call<S>) -
 }
 
 // After every list of calls on a new cabinet, on every board that keeps the board's meaning and held no rows: a call is accepted exactly if none of its causes stands, and else refused by the first that does, with its number, its layer and its place. The causes are told from the calls and answers before, and from the board's capacity and limit; 17 is never among them.
-pub fn causes_stand() -> u8
+pub fn causes_stand()
     ensures { Causes-stand }
-{
-    0
-}
+{}

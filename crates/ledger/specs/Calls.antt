@@ -6,10 +6,10 @@ use Rattle.board.specs.declared.fault.BoardFault.{BoardFault}
 use Rattle.board.specs.Meaning.{BoardMeaning, Row, read_answer, read_place, read_after, store_answer, stored, clear_answer, cleared}
 use Rattle.account.specs.declared.fault.AccountFault.{AccountFault}
 use Rattle.account.specs.declared.fault.AccountFault.TheVariants.{Vacant}
-use Rattle.account.specs.declared.account.Account.{Account as AccountT}
 use Rattle.account.specs.Tenancy.{Tenancy, tenancy_of}
 use Rattle.account.specs.Steps.{months_to, settled}
 use Rattle.row.specs.Rows.{row_of, account_of}
+use Rattle.ledger.specs.declared.due.Due.{Due}
 use Rattle.ledger.specs.declared.fault.LedgerFault.{LedgerFault}
 use Rattle.ledger.specs.declared.fault.LedgerFault.TheVariants.{Board, Account}
 
@@ -93,5 +93,5 @@ abbrev pub book_after : BoardMeaning Row → ℕ → ℕ → ℕ → Tenancy →
 book_after m n e cents t = kept_after m n (booked_at n e cents t)
 
 -- an account and the months of its period, as plain figures
-abbrev pub due_of : AccountT × ℕ → Tenancy × ℕ
-due_of d = (tenancy_of d.0, d.1)
+abbrev pub due_of : Due → Tenancy × ℕ
+due_of d = (tenancy_of d.account, d.months)

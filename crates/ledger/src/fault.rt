@@ -22,15 +22,15 @@ impl From<BoardFault> for LedgerFault {
     }
 }
 
-impl LedgerFault {
-    // The refusal that this fault is: the board's own, or the account's cause with its number as the place.
-    pub fn refusal(self) -> Refusal
-        ensures { result ≡ ledger_refusal self }
-    {
-        match self {
-            LedgerFault::Board(fault) => fault.refusal(),
-            LedgerFault::Account(number, fault) => Refusal {
-                number: fault.number(),
+// The refusal that a fault is: the board's own, or the account's cause with its number as the place.
+impl From<LedgerFault> for Refusal {
+    ghost from_gives = { λ fault refusal. refusal ≡ ledger_refusal fault };
+
+    fn from(fault: LedgerFault) -> Refusal {
+        match fault {
+            LedgerFault::Board(fault) => fault.into(),
+            LedgerFault::Account(number, cause) => Refusal {
+                number: cause.into(),
                 layer: Layer::Ledger,
                 place: number,
             },

@@ -22,8 +22,6 @@ pub fn make_call<B: Board, S: Sheet>(cabinet: &mut Cabinet<B>, call: &Call<S>) -
 }
 
 // The same of every call on every board, as a theorem.
-pub fn recall_stands() -> u8
+pub fn recall_stands()
     ensures { Recall-stands }
-{
-    0
-}
+{}

@@ -48,8 +48,8 @@ impl Writer {
         ensures text { written self.new ≡ written self.old ++ map kind_number kinds.now }
         ensures at { self.new.at ≡ self.old.at + 6 }
     {
-        for i in 0..6usize {
-            self.put(kinds[i].number());
+        for kind in kinds {
+            self.put(u8::from(*kind));
         }
     }
 
@@ -69,9 +69,9 @@ impl Writer {
         ensures text { written self.new ≡ written self.old ++ head_of (tenancy_of account.now) }
         ensures at { self.new.at ≡ self.old.at + 7 }
     {
-        self.put(account.state.number());
-        self.put(account.profile.class.number());
-        self.put(account.profile.marks.number());
+        self.put(account.state.into());
+        self.put(account.profile.class.into());
+        self.put(account.profile.marks.into());
         self.put_all(&account.profile.power.to_be_bytes());
         self.put_all(&account.profile.exempt.to_be_bytes());
     }

@@ -67,13 +67,10 @@ mod tests {
     // The number of the refusal of this row with one byte changed, or 0.
     fn damaged(right: &[u8; 128], at: usize, byte: u8) -> u8 {
         let mut row = *right;
-        if at < 128 {
-            row[at] = byte;
+        if let Some(place) = row.get_mut(at) {
+            *place = byte;
         }
-        match decode(&row) {
-            Ok(_) => 0,
-            Err(fault) => fault.number(),
-        }
+        decode(&row).map_or_else(u8::from, |_| 0)
     }
 
     #[test]

@@ -1,14 +1,14 @@
 // One call made.
 ghost use Rattle.std.specs.Prelude.{◌≡◌};
 ghost use Rattle.cabinet.specs.Books.{books_of};
-ghost use Rattle.law.specs.Transcript.{opening, reading, paying, closing, showing, reply_of, after_of};
-ghost use Rattle.run.specs.Asked.{asked, told};
+ghost use Rattle.law.specs.Transcript.{showing, reply_of, after_of};
+ghost use Rattle.run.specs.Asked.{asked, told, told_by};
 
 use crate::answer::Answer;
 use crate::call::Call;
-use account::{Account, OpeningForm, State};
+use account::{Account, State};
 use board::Board;
-use cabinet::Cabinet;
+use cabinet::{Cabinet, CabinetFault};
 use facts::{Class, Kind, Marks, Profile};
 use sheet::Sheet;
 
@@ -36,48 +36,53 @@ fn blank() -> Account {
     }
 }
 
-// Opens an account at a number.
-fn open<B: Board>(cabinet: &mut Cabinet<B>, number: u64, form: &OpeningForm) -> Answer
-    ensures answer { told result ≡ reply_of (books_of B.meaning cabinet.old) (opening number form.now) }
-    ensures after { books_of B.meaning cabinet.new ≡ after_of (books_of B.meaning cabinet.old) (opening number form.now) }
-{
-    Answer::of_deed(cabinet.open(number, form))
-}
-
-// Takes a reading of the account of a number.
-fn read<B: Board>(cabinet: &mut Cabinet<B>, number: u64, indices: &[u64; 12]) -> Answer
-    ensures answer { told result ≡ reply_of (books_of B.meaning cabinet.old) (reading number indices.now) }
-    ensures after { books_of B.meaning cabinet.new ≡ after_of (books_of B.meaning cabinet.old) (reading number indices.now) }
-{
-    Answer::of_deed(cabinet.read(number, indices))
-}
-
-// Takes a payment for the account of a number.
-fn pay<B: Board>(cabinet: &mut Cabinet<B>, number: u64, cents: u64) -> Answer
-    ensures answer { told result ≡ reply_of (books_of B.meaning cabinet.old) (paying number cents) }
-    ensures after { books_of B.meaning cabinet.new ≡ after_of (books_of B.meaning cabinet.old) (paying number cents) }
-{
-    Answer::of_deed(cabinet.pay(number, cents))
-}
-
-// Closes the account of a number.
-fn close<B: Board>(cabinet: &mut Cabinet<B>, number: u64) -> Answer
-    ensures answer { told result ≡ reply_of (books_of B.meaning cabinet.old) (closing number) }
-    ensures after { books_of B.meaning cabinet.new ≡ after_of (books_of B.meaning cabinet.old) (closing number) }
-{
-    Answer::of_deed(cabinet.close(number))
-}
-
 // Shows the account of a number.
-fn show<B: Board>(cabinet: &mut Cabinet<B>, number: u64) -> Answer
-    ensures answer { told result ≡ reply_of (books_of B.meaning cabinet.old) (showing number) }
+fn show<B: Board>(cabinet: &mut Cabinet<B>, number: u64) -> Result<Answer, CabinetFault>
+    ensures answer { told_by result ≡ reply_of (books_of B.meaning cabinet.old) (showing number) }
     ensures after { books_of B.meaning cabinet.new ≡ after_of (books_of B.meaning cabinet.old) (showing number) }
 {
     let mut place = blank();
-    match cabinet.show(number, &mut place) {
-        Ok(true) => Answer::Shown(place),
-        Ok(false) => Answer::Vacant,
-        Err(fault) => Answer::Refused(fault.refusal()),
+    if cabinet.show(number, &mut place)? {
+        Ok(Answer::Shown(place))
+    } else {
+        Ok(Answer::Vacant)
+    }
+}
+
+// Makes one call, which the cabinet accepts or not.
+fn outcome<B: Board, S: Sheet>(
+    cabinet: &mut Cabinet<B>,
+    call: &Call<S>,
+) -> Result<Answer, CabinetFault>
+    ensures answer { told_by result ≡ reply_of (books_of B.meaning cabinet.old) (asked S.tariff call.now) }
+    ensures after { books_of B.meaning cabinet.new ≡ after_of (books_of B.meaning cabinet.old) (asked S.tariff call.now) }
+{
+    match call {
+        Call::Post { s, mx, nc } => {
+            let (month, ne) = cabinet.post(*s, *mx, *nc)?;
+            Ok(Answer::Posted(month, ne))
+        }
+        Call::Open { number, form } => {
+            cabinet.open(*number, form)?;
+            Ok(Answer::Done)
+        }
+        Call::Read { number, indices } => {
+            cabinet.read(*number, indices)?;
+            Ok(Answer::Done)
+        }
+        Call::Settle { number, end, sheet } => {
+            let bill = cabinet.settle(*number, *end, sheet)?;
+            Ok(Answer::Billed(bill))
+        }
+        Call::Pay { number, cents } => {
+            cabinet.pay(*number, *cents)?;
+            Ok(Answer::Done)
+        }
+        Call::Close { number } => {
+            cabinet.close(*number)?;
+            Ok(Answer::Done)
+        }
+        Call::Show { number } => show(cabinet, *number),
     }
 }
 
@@ -86,15 +91,5 @@ pub fn apply<B: Board, S: Sheet>(cabinet: &mut Cabinet<B>, call: &Call<S>) -> An
     ensures answer { told result ≡ reply_of (books_of B.meaning cabinet.old) (asked S.tariff call.now) }
     ensures after { books_of B.meaning cabinet.new ≡ after_of (books_of B.meaning cabinet.old) (asked S.tariff call.now) }
 {
-    match call {
-        Call::Post { s, mx, nc } => Answer::of_posting(cabinet.post(*s, *mx, *nc)),
-        Call::Open { number, form } => open(cabinet, *number, form),
-        Call::Read { number, indices } => read(cabinet, *number, indices),
-        Call::Settle { number, end, sheet } => {
-            Answer::of_settlement(cabinet.settle(*number, *end, sheet))
-        }
-        Call::Pay { number, cents } => pay(cabinet, *number, *cents),
-        Call::Close { number } => close(cabinet, *number),
-        Call::Show { number } => show(cabinet, *number),
-    }
+    outcome(cabinet, call).unwrap_or_else(|fault| Answer::Refused(fault.into()))
 }

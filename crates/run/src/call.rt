@@ -1,4 +1,8 @@
 // A call on a cabinet.
+ghost use Rattle.std.specs.Prelude.{◌≡◌};
+ghost use Rattle.std.specs.Fn.{FnOnceReturnsAt};
+ghost use Rattle.run.specs.Asked.{number_of, Mapped};
+
 use account::OpeningForm;
 
 // A call with what it hands in, any numbers. A settlement holds its price sheet.
@@ -11,4 +15,45 @@ pub enum Call<S> {
     Pay { number: u64, cents: u64 },
     Close { number: u64 },
     Show { number: u64 },
+}
+
+impl<S> Call<S> {
+    // The number that a call is on; a posting is on none.
+    pub fn number(&self) -> Option<u64>
+        ensures { result ≡ number_of self.now }
+    {
+        match self {
+            Call::Post { .. } => None,
+            Call::Open { number, .. }
+            | Call::Read { number, .. }
+            | Call::Settle { number, .. }
+            | Call::Pay { number, .. }
+            | Call::Close { number }
+            | Call::Show { number } => Some(*number),
+        }
+    }
+
+    // The same call, with the sheet of a settlement made another by the closure.
+    pub fn map_sheet<T, F: FnOnce(&S) -> T>(&self, make: F) -> Call<T>
+        requires { F.IsAlwaysCallable make }
+        ensures { Mapped (FnOnceReturnsAt F.FnOnce make) self.now result }
+    {
+        match *self {
+            Call::Post { s, mx, nc } => Call::Post { s, mx, nc },
+            Call::Open { number, form } => Call::Open { number, form },
+            Call::Read { number, indices } => Call::Read { number, indices },
+            Call::Settle {
+                number,
+                end,
+                ref sheet,
+            } => Call::Settle {
+                number,
+                end,
+                sheet: make(sheet),
+            },
+            Call::Pay { number, cents } => Call::Pay { number, cents },
+            Call::Close { number } => Call::Close { number },
+            Call::Show { number } => Call::Show { number },
+        }
+    }
 }

@@ -70,11 +70,8 @@ mod tests {
         let mut place = Vec::with_capacity(heap, calls.len())?;
         assert!(rt; run(cabinet, calls, &mut place).is_ok());
         assert_eq!(rt; place.len(), expected.len());
-        for (i, answer) in place.iter().enumerate() {
-            match expected.get(i) {
-                Some(told) => assert_eq!(rt; told_by(answer), *told),
-                None => return Err(Fail::new("an answer too many")),
-            }
+        for (answer, told) in place.iter().zip(expected) {
+            assert_eq!(rt; told_by(answer), *told);
         }
         Ok(())
     }
@@ -109,10 +106,8 @@ mod tests {
             waiting: [0; 12],
             balance,
         };
-        match Account::new(&account) {
-            Ok(account) => Ok(encode(&account)),
-            Err(_) => Err(Fail::new("no account")),
-        }
+        let account = Account::new(&account).map_err(|_| Fail::new("no account"))?;
+        Ok(encode(&account))
     }
 
     fn post(s: u64) -> Call<OnePlan> {
@@ -341,16 +336,17 @@ mod tests {
     }
 
     // The cabinet keeps 1,200 months, and a posting beyond them is refused whatever its figures are.
-    fn fills_the_months<B: Board>(
+    fn fills_the_months<B: Board + Drop>(
         rt: &impl Abort,
         heap: Global,
-        cabinet: &mut Cabinet<B>,
+        board: B,
     ) -> Result<(), Fail> {
+        let mut cabinet = Cabinet::new(heap, board)?;
         for month in 0..1_200 {
             answers(
                 rt,
                 heap,
-                cabinet,
+                &mut cabinet,
                 &[post(888_131)],
                 &[Told::Posted(month, 10_000)],
             )?;
@@ -358,24 +354,21 @@ mod tests {
         answers(
             rt,
             heap,
-            cabinet,
+            &mut cabinet,
             &[post(888_131), post(0)],
             &[Told::Refused(1, Layer::Cabinet, 1_200); 2],
         )
     }
 
     // A whole life at the number 1 of a board of three.
-    fn lives<B: Board>(
-        rt: &impl Abort,
-        heap: Global,
-        cabinet: &mut Cabinet<B>,
-    ) -> Result<(), Fail> {
-        posts_a_year(rt, heap, cabinet)?;
-        opens(rt, heap, cabinet)?;
-        reads(rt, heap, cabinet)?;
-        finds_no_plan(rt, heap, cabinet)?;
-        settles(rt, heap, cabinet)?;
-        pays_and_closes(rt, heap, cabinet)
+    fn lives<B: Board + Drop>(rt: &impl Abort, heap: Global, board: B) -> Result<(), Fail> {
+        let mut cabinet = Cabinet::new(heap, board)?;
+        posts_a_year(rt, heap, &mut cabinet)?;
+        opens(rt, heap, &mut cabinet)?;
+        reads(rt, heap, &mut cabinet)?;
+        finds_no_plan(rt, heap, &mut cabinet)?;
+        settles(rt, heap, &mut cabinet)?;
+        pays_and_closes(rt, heap, &mut cabinet)
     }
 
     // Rows of an earlier user: two accounts a cent from the limits of a balance, and bytes that are no account.
@@ -437,56 +430,54 @@ mod tests {
         )
     }
 
+    // The calls on a board with rows of an earlier user.
+    fn takes_over<B: Board + Drop>(
+        rt: &impl Abort,
+        heap: Global,
+        mut board: B,
+    ) -> Result<(), Fail> {
+        fills(&mut board)?;
+        let mut cabinet = Cabinet::new(heap, board)?;
+        keeps_to_limits(rt, heap, &mut cabinet)?;
+        leaves_a_broken_row(rt, heap, &mut cabinet)
+    }
+
     fn table(heap: Global) -> Result<Table, Fail> {
-        match TablePlan::new(3, vec![in heap; 0u8; 387]?) {
-            Ok(plan) => Ok(plan.make()),
-            Err(_) => Err(Fail::new("unfit")),
-        }
+        TablePlan::new(3, vec![in heap; 0u8; 387]?)
+            .map(|plan| plan.make())
+            .map_err(|_| Fail::new("unfit"))
     }
 
     fn journal(heap: Global, limit: u64) -> Result<Journal, Fail> {
-        match JournalPlan::new(3, limit, vec![in heap; 0u8; 524]?) {
-            Ok(plan) => Ok(plan.make()),
-            Err(_) => Err(Fail::new("unfit")),
-        }
+        JournalPlan::new(3, limit, vec![in heap; 0u8; 524]?)
+            .map(|plan| plan.make())
+            .map_err(|_| Fail::new("unfit"))
     }
 
     #[test]
     fn a_life_on_a_table(rt: HostRuntime) -> Result<(), Fail> {
-        let mut cabinet = Cabinet::new(rt.alloc(), table(rt.alloc())?)?;
-        lives(&rt, rt.alloc(), &mut cabinet)
+        lives(&rt, rt.alloc(), table(rt.alloc())?)
     }
 
     #[test]
     fn a_life_on_a_journal(rt: HostRuntime) -> Result<(), Fail> {
-        let mut cabinet = Cabinet::new(rt.alloc(), journal(rt.alloc(), 3)?)?;
-        lives(&rt, rt.alloc(), &mut cabinet)
+        lives(&rt, rt.alloc(), journal(rt.alloc(), 3)?)
     }
 
     #[test]
     fn all_months_posted_on_both_boards(rt: HostRuntime) -> Result<(), Fail> {
-        let mut on_table = Cabinet::new(rt.alloc(), table(rt.alloc())?)?;
-        fills_the_months(&rt, rt.alloc(), &mut on_table)?;
-        let mut on_journal = Cabinet::new(rt.alloc(), journal(rt.alloc(), 3)?)?;
-        fills_the_months(&rt, rt.alloc(), &mut on_journal)
+        fills_the_months(&rt, rt.alloc(), table(rt.alloc())?)?;
+        fills_the_months(&rt, rt.alloc(), journal(rt.alloc(), 3)?)
     }
 
     #[test]
     fn rows_of_an_earlier_user_on_a_table(rt: HostRuntime) -> Result<(), Fail> {
-        let mut board = table(rt.alloc())?;
-        fills(&mut board)?;
-        let mut cabinet = Cabinet::new(rt.alloc(), board)?;
-        keeps_to_limits(&rt, rt.alloc(), &mut cabinet)?;
-        leaves_a_broken_row(&rt, rt.alloc(), &mut cabinet)
+        takes_over(&rt, rt.alloc(), table(rt.alloc())?)
     }
 
     #[test]
     fn rows_of_an_earlier_user_on_a_journal(rt: HostRuntime) -> Result<(), Fail> {
-        let mut board = journal(rt.alloc(), 3)?;
-        fills(&mut board)?;
-        let mut cabinet = Cabinet::new(rt.alloc(), board)?;
-        keeps_to_limits(&rt, rt.alloc(), &mut cabinet)?;
-        leaves_a_broken_row(&rt, rt.alloc(), &mut cabinet)
+        takes_over(&rt, rt.alloc(), journal(rt.alloc(), 3)?)
     }
 
     #[test]

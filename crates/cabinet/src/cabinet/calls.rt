@@ -1,11 +1,11 @@
 // The calls on a cabinet.
-ghost use Rattle.std.specs.Prelude.{◌≡◌, Ok};
+ghost use Rattle.std.specs.Prelude.{◌≡◌};
 ghost use Rattle.account.specs.declared.event.Event.TheVariants.{Open, Read, Pay, Close};
-ghost use Rattle.account.specs.Steps.{stepped, months_to};
+ghost use Rattle.account.specs.Steps.{stepped};
 ghost use Rattle.account.specs.Tenancy.{tenancy_of};
 ghost use Rattle.months.specs.Posted.{posted_of};
 ghost use Rattle.board.specs.Meaning.{read_place};
-ghost use Rattle.ledger.specs.Calls.{load_answer, show_place};
+ghost use Rattle.ledger.specs.Calls.{load_answer, show_place, due_of};
 ghost use Rattle.cabinet.specs.Books.{books_of, posted_answer, posted_after, done_answer, done_after, priced, billed, bill_answer, bill_after, settle_answer, settle_after, shown_answer, shown_after, row_answer, row_after};
 
 use super::Cabinet;
@@ -14,6 +14,7 @@ use crate::bill::settled::facts_of;
 use crate::fault::CabinetFault;
 use account::{Account, OpeningForm};
 use board::Board;
+use ledger::Due;
 use sheet::{Plan, Sheet, choose};
 
 impl<B: Board> Cabinet<B> {
@@ -41,42 +42,25 @@ impl<B: Board> Cabinet<B> {
         Ok(self.ledger.read(number, indices)?)
     }
 
-    // The cheapest plan of a sheet for an account's months up to an end month. Refused by 12, 13.
-    fn plan_for<S: Sheet>(
-        &self,
-        number: u64,
-        end: u64,
-        account: &Account,
-        months: u8,
-        sheet: &S,
-    ) -> Result<Plan, CabinetFault>
-        requires { months_to end (tenancy_of account.now) ≡ Ok months }
-        ensures { result ≡ priced (posted_of self.now.months) number end (S.tariff sheet.now) (tenancy_of account.now, months) }
+    // The cheapest plan of a sheet for a period that is due. Refused by 12, 13.
+    fn plan_for<S: Sheet>(&self, due: &Due, sheet: &S) -> Result<Plan, CabinetFault>
+        ensures { result ≡ priced (posted_of self.now.months) due.now.number due.now.end (S.tariff sheet.now) (due_of due.now) }
     {
-        let Some((ne, nc)) = self.months.sums(account.next as u64, months) else {
-            return Err(CabinetFault::NotPosted(number));
-        };
-        let facts = facts_of(account, months, ne, nc);
-        match choose(sheet, &facts) {
-            Some(plan) => Ok(plan),
-            None => Err(CabinetFault::NoPlan(number)),
-        }
+        let (ne, nc) = self
+            .months
+            .sums(u64::from(due.account.next), due.months)
+            .ok_or(CabinetFault::NotPosted(due.number))?;
+        choose(sheet, &facts_of(due, ne, nc)).ok_or(CabinetFault::NoPlan(due.number))
     }
 
     // Books a plan's cents and answers the bill. Refused by 15.
-    fn bill(
-        &mut self,
-        number: u64,
-        end: u64,
-        account: Account,
-        months: u8,
-        plan: Plan,
-    ) -> Result<Bill, CabinetFault>
-        ensures answer { result ≡ bill_answer (books_of B.meaning self.old) number (billed number end (tenancy_of account, months) plan) }
-        ensures after { books_of B.meaning self.new ≡ bill_after (books_of B.meaning self.old) number (billed number end (tenancy_of account, months) plan) }
+    fn bill(&mut self, due: &Due, plan: Plan) -> Result<Bill, CabinetFault>
+        ensures answer { result ≡ bill_answer (books_of B.meaning self.old) due.now.number (billed due.now.number due.now.end (due_of due.now) plan) }
+        ensures after { books_of B.meaning self.new ≡ bill_after (books_of B.meaning self.old) due.now.number (billed due.now.number due.now.end (due_of due.now) plan) }
     {
-        self.ledger.book(number, account, end, plan.cents)?;
-        Ok(Bill::new(&account, months, plan))
+        self.ledger
+            .book(due.number, due.account, due.end, plan.cents)?;
+        Ok(Bill::new(due, plan))
     }
 
     // Bills the period up to an end month on the cheapest plan of a sheet. Refused by 3, 17, 7, 10, 11, 12, 13, 15.
@@ -89,9 +73,9 @@ impl<B: Board> Cabinet<B> {
         ensures answer { result ≡ settle_answer (books_of B.meaning self.old) number end (S.tariff sheet.now) }
         ensures after { books_of B.meaning self.new ≡ settle_after (books_of B.meaning self.old) number end (S.tariff sheet.now) }
     {
-        let (account, months) = self.ledger.due(number, end)?;
-        let plan = self.plan_for(number, end, &account, months, sheet)?;
-        self.bill(number, end, account, months, plan)
+        let due = self.ledger.due(number, end)?;
+        let plan = self.plan_for(&due, sheet)?;
+        self.bill(&due, plan)
     }
 
     // Takes a payment. Refused by 3, 17, 7, 14, 15.

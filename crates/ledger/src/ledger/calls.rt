@@ -18,10 +18,8 @@ impl<B: Board> Ledger<B> {
         ensures after { B.meaning self.new.board ≡ call_after (B.meaning self.old.board) number (stepped event.now) }
     {
         let found = self.load(number)?;
-        match step(found, event) {
-            Ok(next) => self.keep(number, &next),
-            Err(fault) => Err(LedgerFault::Account(number, fault)),
-        }
+        let next = step(found, event).map_err(|fault| LedgerFault::Account(number, fault))?;
+        self.keep(number, &next)
     }
 
     // Opens an account at a vacant number. Refused by 3, 17, 4, 5, 6.

@@ -22,10 +22,8 @@ impl<B: Board> Ledger<B> {
         if !self.board.read(number, &mut row)? {
             return Ok(None);
         }
-        match decode(&row) {
-            Ok(account) => Ok(Some(account)),
-            Err(fault) => Err(LedgerFault::Account(number, fault)),
-        }
+        let account = decode(&row).map_err(|fault| LedgerFault::Account(number, fault))?;
+        Ok(Some(account))
     }
 
     // Keeps an account as the row of a number, or clears the row where there is none.

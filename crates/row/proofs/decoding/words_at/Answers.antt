@@ -1,15 +1,12 @@
-use Rattle.std.proofs.Common.{◌+◌, ◌*◌, ◌<◌, length, arith, length-set, rules}
-use Rattle.std.proofs.lemmas.List.Edits.{fill_by_more}
+use Rattle.std.proofs.Common.{◌≡◌, ℕ, ◌+◌, ◌*◌, ◌<◌, ◌≤◌, get_or, arith}
+use Rattle.std.proofs.lemmas.Grind.{common_steps}
 use Rattle.std.proofs.lemmas.List.FromFn.{fill_by_all}
 use Rattle.row.specs.Bytes.{at32}
 use Rattle.row.proofs.decoding.words_at.Goals as goal
 
-pub loop-i-preserved : goal.loop-i-preserved
-loop-i-preserved c =
-    let h : c.loop-i.i < length c.loop-i.words = omega arith in (
-      simp length-set c.loop-i.invariant.0,
-      simp c.from_be_bytes.ensures (fill_by_more (λ k. at32 c.args.row.now (c.args.from + 4 * k)) c.loop-i.words c.loop-i.i 0 h c.loop-i.invariant.1),
-    )
-
 pub returns : goal.returns
-returns c = fill_by_all (λ k. at32 c.args.row.now (c.args.from + 4 * k)) c.loop-i.words 12 0 c.loop-i.invariant.0 (search rules)
+returns c =
+    let row = c.args.row.now in
+    let from : ℕ = c.args.from in
+    let at : (k : ℕ) → k < 12 → get_or c.from_fn.result k 0 ≡ at32 row (from + 4 * k) = λ k h. let t = c.from_fn.ensures.items.at k 0 h in let m = t.2.met in let b : from + 4 * k + 4 ≤ 128 = omega arith in grind (arith, common_steps) in
+    fill_by_all (λ k. at32 row (from + 4 * k)) c.from_fn.result 12 0 c.from_fn.ensures.items.long at

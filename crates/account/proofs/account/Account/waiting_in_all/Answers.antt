@@ -1,23 +1,20 @@
-use Rattle.std.proofs.Common.{ℕ, ◌≤◌, get_or, ap, arith}
-use Rattle.common.proofs.Counted.{sum_to-more}
+use Rattle.std.proofs.Common.{◌≡◌, ℕ, ◌<◌, ◌≤◌, ◌^◌, sum, ap, arith, rules}
+use Rattle.std.proofs.lemmas.Grind.{common_steps}
 use Rattle.account.specs.Tenancy.{tenancy_of}
 use Rattle.account.specs.Waiting.{kwh_on}
 use Rattle.account.proofs.Kwh.{circuit-most}
 use Rattle.account.proofs.account.Account.waiting_in_all.Goals as goal
 
-pub overflow_add-sum : goal.overflow_add-sum
-overflow_add-sum c =
+pub sum-requires-clause-fits : goal.sum-requires-clause-fits
+sum-requires-clause-fits c =
     let a = c.args.self.now in
-    let i : ℕ = c.loop-i.i in
-    let m : kwh_on c.args.hours (tenancy_of a) i ≤ 100000 = circuit-most a.state a.profile.kinds a.waiting a.unsettled c.args.hours i (omega arith) in
-    let e = ap (λ r. get_or a.waiting r 0) c.register.ensures.value in
-    omega arith
+    let most : (k : ℕ) → k < 6 → kwh_on c.args.hours (tenancy_of a) k ≤ 100000 = circuit-most a.state a.profile.kinds a.waiting a.unsettled c.args.hours in
+    let s = ap sum c.waiting_on.ensures.value in
+    let b : sum c.waiting_on.result < 2 ^ 32 = omega (arith, most 0 (omega arith), most 1 (omega arith), most 2 (omega arith), most 3 (omega arith), most 4 (omega arith), most 5 (omega arith)) in
+    grind (arith, common_steps)
 
-pub loop-i-preserved : goal.loop-i-preserved
-loop-i-preserved c =
-    let a = c.args.self.now in
-    let i : ℕ = c.loop-i.i in
-    let m : kwh_on c.args.hours (tenancy_of a) i ≤ 100000 = circuit-most a.state a.profile.kinds a.waiting a.unsettled c.args.hours i (omega arith) in
-    let e = ap (λ r. get_or a.waiting r 0) c.register.ensures.value in
-    let n = sum_to-more (kwh_on c.args.hours (tenancy_of a)) i in
-    (omega arith, omega arith)
+pub returns : goal.returns
+returns c =
+    let s = ap sum c.waiting_on.ensures.value in
+    let t : c.sum.result ≡ sum c.waiting_on.result = search rules in
+    omega arith

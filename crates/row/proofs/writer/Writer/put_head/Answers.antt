@@ -8,6 +8,6 @@ five w ea eb ec ep ex e1 e2 e3 e4 e5 = simp (e5, e4, e3, e2, e1, ea, eb, ec, ep,
 
 pub returns : goal.returns
 returns c = record {
-  text = five (written c.args.self.now) c.number.ensures c.number-2.ensures c.number-3.ensures c.to_be_bytes.ensures c.to_be_bytes-2.ensures c.put.ensures.text c.put-2.ensures.text c.put-3.ensures.text c.put_all.ensures.text c.put_all-2.ensures.text;
+  text = five (written c.args.self.now) c.into.ensures c.into-2.ensures c.into-3.ensures c.to_be_bytes.ensures c.to_be_bytes-2.ensures c.put.ensures.text c.put-2.ensures.text c.put-3.ensures.text c.put_all.ensures.text c.put_all-2.ensures.text;
   at = search rules;
 }

@@ -5,11 +5,11 @@ use Rattle.facts.specs.Numbers.{kind_number}
 use Rattle.facts.specs.declared.kind.Kind.TheVariants.{Unused}
 use Rattle.row.proofs.writer.Writer.put_kinds.Goals as goal
 
-pub loop-i-preserved : goal.loop-i-preserved
-loop-i-preserved c =
-    let h : c.loop-i.i < length c.args.kinds.now = search rules in
-    let m = map_more kind_number c.args.kinds.now c.loop-i.i Unused h in
-    let a = append_assoc (written c.args.self.now) (map kind_number (take c.loop-i.i c.args.kinds.now)) (kind_number (get_or c.args.kinds.now c.loop-i.i Unused) ∷ []) in
+pub loop-kind-preserved : goal.loop-kind-preserved
+loop-kind-preserved c =
+    let h : c.loop-kind.kind-index < length c.args.kinds.now = search rules in
+    let m = map_more kind_number c.args.kinds.now c.loop-kind.kind-index Unused h in
+    let a = append_assoc (written c.args.self.now) (map kind_number (take c.loop-kind.kind-index c.args.kinds.now)) (kind_number (get_or c.args.kinds.now c.loop-kind.kind-index Unused) ∷ []) in
     (cc, search rules)
 
 pub returns : goal.returns
