@@ -7,7 +7,7 @@ use Rattle.words.specs.Numbers.{is_end}
 use Rattle.answers.specs.declared.answer.Answer.TheVariants.{Tenths, Lines, Parts, NotPermitted, Plan, NoPlan, Made, Posted, Done, Bill, Account, Vacant, Row, Refused, Unreadable, NoMemory}
 use Rattle.answers.specs.Bills.{bill_numbers}
 use Rattle.answers.specs.Texts.{spaced, spaced_all, hex_text, state_text}
-use Rattle.answers.specs.Answers.{layer_name}
+use Rattle.refusal.specs.Refusals.{layer_name}
 use Rattle.answerwords.specs.Front.{bound, ended}
 use Rattle.answerwords.specs.Words.{row_of}
 use Rattle.reread.specs.Answers.{tenths_of, lines_of, parts_of, plan_of, made_of, posted_of, bill_of, bare_of, row_answer, behind_of, answer_with, answer_of}

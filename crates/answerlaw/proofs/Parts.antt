@@ -6,13 +6,12 @@ use Rattle.std.proofs.lemmas.Bool.{cond-true, le-leb}
 use Rattle.refusal.specs.declared.Layer.{Layer}
 use Rattle.refusal.specs.declared.Layer.TheVariants.{Board, Ledger, Cabinet, Sheet, Rating}
 use Rattle.refusal.specs.declared.Refusal.{Refusal}
-use Rattle.refusal.specs.Refusals.{refused}
+use Rattle.refusal.specs.Refusals.{refused, layer_name}
 use Rattle.facts.specs.declared.form.ProfileForm.{ProfileForm}
 use Rattle.account.specs.declared.form.AccountForm.{AccountForm}
 use Rattle.words.specs.Words.{is_word, word_of, rest_of}
 use Rattle.words.specs.Numbers.{number_of}
 use Rattle.answers.specs.Texts.{spaced, spaced_all, state_text}
-use Rattle.answers.specs.Answers.{layer_name}
 use Rattle.answerwords.specs.Front.{bound, front_of, ended}
 use Rattle.answerwords.specs.Words.{signed_of, state_of, layer_of}
 use Rattle.reread.specs.Forms.{profile_form, profile_of, account_form, figures_of, account_of, byte_alone, refusal_of}

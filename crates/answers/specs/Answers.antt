@@ -1,22 +1,13 @@
 -- How an answer is written.
 use Rattle.std.specs.Prelude.{ℕ, List, [], ◌∷◌, ◌++◌, codes}
 use Rattle.std.specs.Fmt.{signed_decimal}
-use Rattle.refusal.specs.declared.Layer.{Layer}
-use Rattle.refusal.specs.declared.Layer.TheVariants.{Board, Ledger, Cabinet, Sheet, Rating}
 use Rattle.refusal.specs.declared.Refusal.{Refusal}
+use Rattle.refusal.specs.Refusals.{layer_name}
 use Rattle.account.specs.declared.form.AccountForm.{AccountForm}
 use Rattle.answers.specs.declared.answer.Answer.{Answer}
 use Rattle.answers.specs.declared.answer.Answer.TheVariants.{Tenths, Lines, Parts, NotPermitted, Plan, NoPlan, Made, Posted, Done, Bill, Account, Vacant, Row, Refused, Unreadable, NoMemory}
 use Rattle.answers.specs.Bills.{bill_numbers}
 use Rattle.answers.specs.Texts.{spaced, spaced_all, hex_text, state_text}
-
--- the word of a layer
-abbrev pub layer_name : Layer → List ℕ
-layer_name Board = codes "board"
-layer_name Ledger = codes "ledger"
-layer_name Cabinet = codes "cabinet"
-layer_name Sheet = codes "sheet"
-layer_name Rating = codes "rating"
 
 abbrev pub refusal_text : Refusal → List ℕ
 refusal_text r = codes "refused" ++ (spaced r.number ++ (codes " " ++ (layer_name r.layer ++ spaced r.place)))

@@ -17,20 +17,38 @@ pub struct BillFigures {
     pub cents: u64,
 }
 
-impl BillFigures {
-    // The numbers in the order in which they are written.
-    pub fn numbers(&self) -> [u64; 7]
-        ensures { result ≡ bill_numbers self.now }
-    {
+// The numbers of a bill in the order in which they are written.
+impl From<&BillFigures> for [u64; 7] {
+    ghost from_gives = { λ bill numbers. numbers ≡ bill_numbers bill.now };
+
+    fn from(bill: &BillFigures) -> [u64; 7] {
         [
-            self.code,
-            self.months,
-            self.day,
-            self.night,
-            self.fixed,
-            self.energy,
-            self.cents,
+            bill.code,
+            bill.months,
+            bill.day,
+            bill.night,
+            bill.fixed,
+            bill.energy,
+            bill.cents,
         ]
+    }
+}
+
+// The bill of numbers in that order.
+impl From<[u64; 7]> for BillFigures {
+    ghost from_gives = { λ numbers bill. bill_numbers bill ≡ numbers };
+
+    fn from(numbers: [u64; 7]) -> BillFigures {
+        let [code, months, day, night, fixed, energy, cents] = numbers;
+        BillFigures {
+            code,
+            months,
+            day,
+            night,
+            fixed,
+            energy,
+            cents,
+        }
     }
 }
 

@@ -6,3 +6,4 @@ mod numbers;
 mod shown;
 
 pub use answer::{Answer, BillFigures};
+pub use numbers::{Hex, Spaced};

@@ -2,26 +2,12 @@
 ghost use Rattle.std.specs.Prelude.{◌≡◌, ◌++◌, Some};
 ghost use Rattle.std.specs.Fmt.{WritesOnOk};
 ghost use Rattle.answers.specs.Texts.{spaced_all};
-ghost use Rattle.answers.specs.Answers.{answer_text, account_text, row_text, refusal_text, layer_name};
+ghost use Rattle.answers.specs.Answers.{answer_text, account_text};
 
 use crate::answer::Answer;
 use crate::numbers::{Hex, Spaced, StateName};
 use account::AccountForm;
-use refusal::{Layer, Refusal};
 use std::fmt;
-
-// The word by which a refusal names its layer.
-fn layer_name(layer: Layer) -> &'static str
-    ensures { result.now ≡ layer_name layer }
-{
-    match layer {
-        Layer::Board => "board",
-        Layer::Ledger => "ledger",
-        Layer::Cabinet => "cabinet",
-        Layer::Sheet => "sheet",
-        Layer::Rating => "rating",
-    }
-}
 
 // `account STATE CLASS ..`
 fn put_account<W: fmt::Write>(f: &mut fmt::Formatter<W>, form: &AccountForm) -> fmt::Result
@@ -42,24 +28,6 @@ fn put_account<W: fmt::Write>(f: &mut fmt::Formatter<W>, form: &AccountForm) -> 
     )
 }
 
-// `row HEX`
-fn put_row<W: fmt::Write>(f: &mut fmt::Formatter<W>, bytes: &[u8; 128]) -> fmt::Result
-    ensures { WritesOnOk W.write_str_gives f.old result (row_text bytes.now) f.new }
-{
-    let row = Hex(bytes);
-    write!(f, "row {row}")
-}
-
-// `refused NUMBER LAYER PLACE`
-fn put_refusal<W: fmt::Write>(f: &mut fmt::Formatter<W>, refusal: Refusal) -> fmt::Result
-    ensures { WritesOnOk W.write_str_gives f.old result (refusal_text refusal) f.new }
-{
-    let number = refusal.number;
-    let layer = layer_name(refusal.layer);
-    let place = refusal.place;
-    write!(f, "refused {number} {layer} {place}")
-}
-
 // A word, and numbers behind it.
 fn put_numbers<W: fmt::Write>(f: &mut fmt::Formatter<W>, word: &str, numbers: &[u64]) -> fmt::Result
     ensures { WritesOnOk W.write_str_gives f.old result (word.now ++ spaced_all numbers.now) f.new }
@@ -72,25 +40,29 @@ impl fmt::Display for Answer {
     ghost output = { λ a. Some (answer_text a) };
 
     fn fmt<W: fmt::Write>(&self, f: &mut fmt::Formatter<W>) -> fmt::Result {
-        match *self {
-            Answer::Tenths(tenths) => put_numbers(f, "tenths", &[tenths as u64]),
-            Answer::Lines(lines) => put_numbers(f, "lines", &[lines]),
-            Answer::Parts(fixed, energy, cents) => put_numbers(f, "parts", &[fixed, energy, cents]),
+        match self {
+            Answer::Tenths(tenths) => put_numbers(f, "tenths", &[u64::from(*tenths)]),
+            Answer::Lines(lines) => put_numbers(f, "lines", &[*lines]),
+            Answer::Parts(fixed, energy, cents) => put_numbers(
+                f,
+                "parts",
+                &[*fixed, *energy, *cents],
+            ),
             Answer::NotPermitted => f.write_str("not-permitted"),
             Answer::Plan(code, fixed, energy, cents) => put_numbers(
                 f,
                 "plan",
-                &[code, fixed, energy, cents],
+                &[*code, *fixed, *energy, *cents],
             ),
             Answer::NoPlan => f.write_str("none"),
-            Answer::Made(capacity, limit) => put_numbers(f, "made", &[capacity, limit]),
-            Answer::Posted(month, ne) => put_numbers(f, "posted", &[month, ne]),
+            Answer::Made(capacity, limit) => put_numbers(f, "made", &[*capacity, *limit]),
+            Answer::Posted(month, ne) => put_numbers(f, "posted", &[*month, *ne]),
             Answer::Done => f.write_str("done"),
-            Answer::Bill(bill) => put_numbers(f, "bill", &bill.numbers()),
-            Answer::Account(form) => put_account(f, &form),
+            Answer::Bill(bill) => put_numbers(f, "bill", &<[u64; 7]>::from(bill)),
+            Answer::Account(form) => put_account(f, form),
             Answer::Vacant => f.write_str("vacant"),
-            Answer::Row(bytes) => put_row(f, &bytes),
-            Answer::Refused(refusal) => put_refusal(f, refusal),
+            Answer::Row(bytes) => write!(f, "row {}", Hex(bytes)),
+            Answer::Refused(refusal) => write!(f, "refused {refusal}"),
             Answer::Unreadable => f.write_str("unreadable"),
             Answer::NoMemory => f.write_str("no-memory"),
         }

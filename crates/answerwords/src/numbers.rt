@@ -19,12 +19,10 @@ pub fn leading_numbers<const N: usize>(text: &[u8]) -> Option<([u64; N], &[u8])>
 {
     let mut numbers = [0; N];
     let mut rest = text;
+    // By index, since a proof keeps no value of the places that an array lends.
     for i in 0..N {
         let (word, behind) = split_word(rest);
-        let Some(value) = number(word) else {
-            return None;
-        };
-        numbers[i] = value;
+        numbers[i] = number(word)?;
         rest = behind;
     }
     Some((numbers, rest))

@@ -36,6 +36,7 @@ impl Bench {
         ensures starts { Starts result (stand_of self.new) }
     {
         let board = board_of(heap, form)?;
+        // Both are made first, so that there is one refusal for want of memory.
         let (Ok(months), Ok(place)) = (Months::new(heap), Place::new(heap)) else {
             return Err(NotMade::NoMemory);
         };

@@ -9,6 +9,7 @@ use months::Months;
 use std::mem;
 
 // Nothing; a board, with the memory that a cabinet over it will need; or a cabinet over a board, with the place for its answers.
+// One type, since a desk goes from one to the next while lines come in.
 #[derive(Drop)]
 pub(crate) enum Standing {
     Nothing,
@@ -21,10 +22,7 @@ impl Standing {
     fn is_board(&self) -> bool
         ensures { result ≡ is_board (stood_by self.now) }
     {
-        match self {
-            Standing::Board(_, _, _) => true,
-            Standing::Nothing | Standing::Cabinet(_, _) => false,
-        }
+        matches!(self, Standing::Board(..))
     }
 
     // The same with a cabinet over the board, where one stands.

@@ -17,32 +17,21 @@ use run::Call;
 use sheets::AnySheet;
 
 // A call with the sheet that it names.
-fn with_sheet(call: Call<SheetName>, house: &House) -> Call<AnySheet>
-    ensures { asked tariff_of result ≡ asked_with (lines_of house.now) call }
+fn with_sheet(call: &Call<SheetName>, house: &House) -> Call<AnySheet>
+    ensures { asked tariff_of result ≡ asked_with (lines_of house.now) call.now }
 {
-    match call {
-        Call::Post { s, mx, nc } => Call::Post { s, mx, nc },
-        Call::Open { number, form } => Call::Open { number, form },
-        Call::Read { number, indices } => Call::Read { number, indices },
-        Call::Settle { number, end, sheet } => Call::Settle {
-            number,
-            end,
-            sheet: AnySheet::named(sheet, *house),
-        },
-        Call::Pay { number, cents } => Call::Pay { number, cents },
-        Call::Close { number } => Call::Close { number },
-        Call::Show { number } => Call::Show { number },
-    }
+    call.map_sheet(|name| AnySheet::named(*name, *house))
 }
 
 // `post ..`, `open ..`, `read ..`, `settle ..`, `pay ..`, `close ..`, `show ..`
+// By a match: `map_or` asks for what the function of another crate states, and it states nothing as a value.
 pub fn call_answer(call: Call<SheetName>, house: &House, bench: &mut Bench) -> Answer
     ensures answer { result ≡ call_line_answer (lines_of house.now) (stand_of bench.old) call }
     ensures after { stand_of bench.new ≡ call_after (stand_of bench.old) (asked_with (lines_of house.now) call) }
     ensures lawful { KeepsLaw (stand_of bench.old) (asked_with (lines_of house.now) call) (call_reply (stand_of bench.old) (asked_with (lines_of house.now) call)) (stand_of bench.new) }
     ensures unmoved { lines_read result ≡ None }
 {
-    match bench.call(with_sheet(call, house)) {
+    match bench.call(with_sheet(&call, house)) {
         Some(reply) => answer_of(reply),
         None => Answer::Unreadable,
     }

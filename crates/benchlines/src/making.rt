@@ -20,7 +20,7 @@ pub fn board_answer(heap: Global, form: BoardForm, bench: &mut Bench) -> Answer
 {
     match bench.make(heap, form) {
         Ok((capacity, limit)) => Answer::Made(capacity, limit),
-        Err(NotMade::Refused(fault)) => Answer::Refused(fault.refusal()),
+        Err(NotMade::Refused(fault)) => Answer::Refused(fault.into()),
         Err(NotMade::NoMemory) => Answer::NoMemory,
     }
 }

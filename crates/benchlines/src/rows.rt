@@ -34,7 +34,7 @@ fn deed_answer(outcome: Option<Result<(), BoardFault>>) -> Answer
     match outcome {
         None => Answer::Unreadable,
         Some(Ok(())) => Answer::Done,
-        Some(Err(fault)) => Answer::Refused(fault.refusal()),
+        Some(Err(fault)) => Answer::Refused(fault.into()),
     }
 }
 

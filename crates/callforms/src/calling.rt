@@ -95,11 +95,7 @@ pub fn call_in(verb: CallVerb, rest: &[u8]) -> Option<Call<SheetName>>
         CallVerb::Read => read_in(rest),
         CallVerb::Settle => settle_in(rest),
         CallVerb::Pay => pay_in(rest),
-        CallVerb::Close => Some(Call::Close {
-            number: account_in(rest)?,
-        }),
-        CallVerb::Show => Some(Call::Show {
-            number: account_in(rest)?,
-        }),
+        CallVerb::Close => account_in(rest).map(|number| Call::Close { number }),
+        CallVerb::Show => account_in(rest).map(|number| Call::Show { number }),
     }
 }

@@ -4,10 +4,8 @@ ghost use Rattle.words.specs.Numbers.{numbers_of};
 ghost use Rattle.callforms.specs.Boards.{table_form, journal_form, board_in};
 
 use crate::forms::BoardForm;
+use table::SLOT;
 use words::{all_numbers, is_word, split_word};
-
-// The bytes that a table board takes for each number.
-const SLOT: u64 = 129;
 
 // `table C [LENGTH]`; without a length as many bytes as the board takes, the most that 64 bits hold where that is more
 fn table_in(rest: &[u8]) -> Option<BoardForm>
@@ -17,7 +15,7 @@ fn table_in(rest: &[u8]) -> Option<BoardForm>
     match numbers.as_slice() {
         [capacity] => Some(BoardForm::Table {
             capacity: *capacity,
-            length: capacity.saturating_mul(SLOT),
+            length: capacity.saturating_mul(SLOT as u64),
         }),
         [capacity, length] => Some(BoardForm::Table {
             capacity: *capacity,
@@ -47,11 +45,12 @@ pub fn board_in(text: &[u8]) -> Option<BoardForm>
     ensures { result ≡ board_in text.now }
 {
     let (word, rest) = split_word(text);
+    // tests in turn, since the proof of a match on the two words stays open
     if is_word(word, b"table") {
-        return table_in(rest);
+        table_in(rest)
+    } else if is_word(word, b"journal") {
+        journal_in(rest)
+    } else {
+        None
     }
-    if is_word(word, b"journal") {
-        return journal_in(rest);
-    }
-    None
 }

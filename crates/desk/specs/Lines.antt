@@ -1,25 +1,20 @@
 -- What each line of a script is answered, and the desk after it.
-use Rattle.std.specs.Prelude.{◌≡◌, ℕ, Bool, true, List, Some, None, Option}
+use Rattle.std.specs.Prelude.{◌≡◌, ℕ, Bool, List, Some, None, Option}
 use Rattle.facts.specs.Forms.{facts_made}
 use Rattle.rating.specs.Ratings.{rating_of}
 use Rattle.sheets.specs.Named.{tariff_named}
 use Rattle.scriptlines.specs.declared.line.Line.{Line}
 use Rattle.scriptlines.specs.declared.line.Line.TheVariants.{Silent, Unreadable, Rating, House, Price, Choose, Board, Call, Row, Store, Clear}
+use Rattle.scriptlines.specs.Lines.{line_of}
 use Rattle.answers.specs.declared.answer.Answer.{Answer}
 use Rattle.answers.specs.declared.answer.Answer.TheVariants as answer
-use Rattle.answers.specs.Tells.{had_memory}
 use Rattle.answerwords.specs.Words.{row_of}
 use Rattle.priceanswers.specs.Answers.{rating_answer, price_line_answer, choose_line_answer, house_line_answer, house_line_after}
-use Rattle.priceanswers.specs.Moving.{Moved}
+use Rattle.priceanswers.specs.Moving.{Moved, found_memory}
 use Rattle.bench.specs.Makings.{make_after}
 use Rattle.bench.specs.Deeds.{row_after, clear_reply, clear_after, call_reply, call_after, KeepsLaw}
 use Rattle.benchlines.specs.Answers.{board_line_answer, asked_with, call_line_answer, row_line_answer, deed_answer, store_line_answer, store_line_after, StartsMade}
 use Rattle.desk.specs.Desks.{DeskMeaning, desk_with}
-
--- memory was found, or none was needed
-abbrev pub found_memory : Option Answer → Bool
-found_memory None = true
-found_memory (Some a) = had_memory a
 
 -- the answer to a line, where memory is found or not
 abbrev pub line_answer : Bool → DeskMeaning → Line (List ℕ) → Option Answer
@@ -73,3 +68,10 @@ LineKeepsLaw d (Call call) a after =
 LineKeepsLaw d (Row number) a after = Unit {0}
 LineKeepsLaw d (Store number text) a after = Unit {0}
 LineKeepsLaw d (Clear number) a after = Unit {0}
+
+-- the text of a line is answered, the desk stands after it as the line says, and the law over runs holds of it
+pub record Answered (before : DeskMeaning) (text : List ℕ) (said : Option Answer) (after : DeskMeaning) : Type 0 where
+  pub answer : said ≡ line_answer (found_memory said) before (line_of text)
+  pub stands : after ≡ line_after (found_memory said) before (line_of text)
+  pub moved : LineMoves before said after
+  pub lawful : LineKeepsLaw before (line_of text) said after

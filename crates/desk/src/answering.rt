@@ -1,12 +1,14 @@
 // The answer to a line.
 ghost use Rattle.std.specs.Prelude.{◌≡◌};
-ghost use Rattle.scriptlines.specs.Lines.{said, line_of};
+ghost use Rattle.scriptlines.specs.Lines.{said};
+ghost use Rattle.priceanswers.specs.Moving.{found_memory};
 ghost use Rattle.desk.specs.Desks.{desk_of};
-ghost use Rattle.desk.specs.Lines.{found_memory, line_answer, line_after, LineMoves, LineKeepsLaw};
+ghost use Rattle.desk.specs.Lines.{line_answer, line_after, LineMoves, LineKeepsLaw, Answered};
 
 use crate::desk::Desk;
 use answers::Answer;
 use benchlines::{board_answer, call_answer, clear_answer, row_answer, store_answer};
+use player::Answering;
 use priceanswers::{choose_answer, house_answer, price_answer, rating_answer};
 use scriptlines::{Line, read_line};
 use std::alloc::Global;
@@ -35,14 +37,12 @@ impl Desk {
             Line::Clear(number) => Some(clear_answer(number, &mut self.bench)),
         }
     }
+}
 
-    // The same for the text of a line, without its line feed.
-    pub fn answer_text(&mut self, heap: Global, text: &[u8]) -> Option<Answer>
-        ensures answer { result ≡ line_answer (found_memory result) (desk_of self.old) (line_of text.now) }
-        ensures after { desk_of self.new ≡ line_after (found_memory result) (desk_of self.old) (line_of text.now) }
-        ensures moved { LineMoves (desk_of self.old) result (desk_of self.new) }
-        ensures lawful { LineKeepsLaw (desk_of self.old) (line_of text.now) result (desk_of self.new) }
-    {
+impl Answering for Desk {
+    ghost answer_text_gives = { λ before text a after. Answered (desk_of before) text a (desk_of after) };
+
+    fn answer_text(&mut self, heap: Global, text: &[u8]) -> Option<Answer> {
         self.answer(heap, read_line(text))
     }
 }

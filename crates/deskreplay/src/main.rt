@@ -1,9 +1,10 @@
 // Reads a script on standard input and writes an answer to each of its lines.
 #![tactic(auto)]
 
-use deskplayer::play;
+use desk::Desk;
+use player::play;
 use std::io;
 
 fn main(rt: HostRuntime) -> io::Result<()> {
-    play(&rt)
+    play(&rt, &mut Desk::new())
 }

@@ -1,9 +1,10 @@
 // Plays a long random script, whose answers an independent calculation worked out: compare/make-samples writes both.
 #![tactic(auto)]
 
-use deskplayer::play;
+use desk::Desk;
+use player::play;
 use std::io;
 
 fn main(rt: HostRuntime) -> io::Result<()> {
-    play(&rt)
+    play(&rt, &mut Desk::new())
 }

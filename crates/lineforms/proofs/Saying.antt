@@ -1,5 +1,6 @@
 -- A word says the verb that is found for it, and no verb where none is found.
 use Rattle.std.proofs.Common.{◌≡◌, ℕ, zero, suc, ◌<◌, List, [], ◌∷◌, length, get_or, Some, None, Decides, Option, arith, lit<}
+use Rattle.std.specs.List.{find}
 use Rattle.std.proofs.lemmas.Slice.Eq.{bytes_eq-Decides}
 use Rattle.std.proofs.lemmas.Bool.Decides.{not_from_Decides}
 use Rattle.std.proofs.lemmas.Bool.{cond_both}
@@ -7,7 +8,7 @@ use Rattle.words.specs.Words.{is_word}
 use Rattle.lineforms.specs.declared.verb.CallVerb.TheVariants.{Post, Open, Read, Settle, Pay, Close, Show}
 use Rattle.lineforms.specs.declared.verb.Verb.{Verb}
 use Rattle.lineforms.specs.declared.verb.Verb.TheVariants.{Rating, House, Price, Choose, Board, Row, Store, Clear, Call}
-use Rattle.lineforms.specs.Verbs.{verb_name, verbs, verb_among, verb_of, Says}
+use Rattle.lineforms.specs.Verbs.{verb_name, verbs, verb_of, Says}
 
 is_word-decides : (word name : List ℕ) → Decides (is_word word name) (word ≡ name)
 unfolding is_word
@@ -23,13 +24,16 @@ more : (v : Verb) (vs : List Verb) (word : List ℕ) → (word ≡ verb_name v �
 more v vs word not-said (Some u) h = h
 more v vs word not-said None h = λ k. elim k as (λ n. n < length (v ∷ vs) → word ≡ verb_name (get_or (v ∷ vs) n Rating) → ⊥) [ zero ↦ λ _. not-said | suc n ↦ λ l. h n (omega arith) ]
 
-says-among : (vs : List Verb) (word : List ℕ) → SaysAmong vs word (verb_among vs word)
-unfolding verb_among
+-- the verb that is found for a word in a list
+abbrev found : List Verb → List ℕ → Option Verb
+found vs word = find (λ v. is_word word (verb_name v)) vs
+
+says-among : (vs : List Verb) (word : List ℕ) → SaysAmong vs word (found vs word)
 says-among [] word = λ k l. absurd (omega arith)
 says-among (v ∷ vs) word =
     let d = is_word-decides word (verb_name v) in
-    cond_both (is_word word (verb_name v)) (Some v) (verb_among vs word) (SaysAmong (v ∷ vs) word) d.0
-    (λ e. more v vs word (not_from_Decides (is_word word (verb_name v)) d e) (verb_among vs word) (says-among vs word))
+    cond_both (is_word word (verb_name v)) (Some v) (found vs word) (SaysAmong (v ∷ vs) word) d.0
+    (λ e. more v vs word (not_from_Decides (is_word word (verb_name v)) d e) (found vs word) (says-among vs word))
 
 -- what holds of each place in the list of verbs holds of each verb
 every : (word : List ℕ) → SaysAmong verbs word None → (v : Verb) → word ≡ verb_name v → ⊥
@@ -55,4 +59,5 @@ whole word (Some v) h = h
 whole word None h = every word h
 
 pub says : (word : List ℕ) → Says word (verb_of word)
-says word = whole word (verb_of word) (says-among verbs word)
+unfolding verb_of
+says word = whole word (found verbs word) (says-among verbs word)

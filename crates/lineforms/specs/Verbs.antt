@@ -1,5 +1,6 @@
 -- The first words of lines.
-use Rattle.std.specs.Prelude.{◌≡◌, ℕ, cond, List, [], ◌∷◌, Some, None, codes, Option, ◌≢◌}
+use Rattle.std.specs.Prelude.{◌≡◌, ℕ, List, [], ◌∷◌, Some, None, codes, Option, ◌≢◌}
+use Rattle.std.specs.List.{find}
 use Rattle.words.specs.Words.{is_word}
 use Rattle.lineforms.specs.declared.verb.CallVerb.{CallVerb}
 use Rattle.lineforms.specs.declared.verb.CallVerb.TheVariants.{Post, Open, Read, Settle, Pay, Close, Show}
@@ -33,14 +34,9 @@ verbs =
     Rating ∷ House ∷ Price ∷ Choose ∷ Board ∷ Row ∷ Store ∷ Clear ∷
     Call Post ∷ Call Open ∷ Call Read ∷ Call Settle ∷ Call Pay ∷ Call Close ∷ Call Show ∷ []
 
--- the first verb of a list that a word says
-unfoldable pub verb_among : List Verb → List ℕ → Option Verb
-verb_among [] word = None
-verb_among (v ∷ vs) word = cond (is_word word (verb_name v)) (Some v) (verb_among vs word)
-
--- the verb that a word says
-abbrev pub verb_of : List ℕ → Option Verb
-verb_of word = verb_among verbs word
+-- the verb that a word says, the first of them
+unfoldable pub verb_of : List ℕ → Option Verb
+verb_of word = find (λ v. is_word word (verb_name v)) verbs
 
 -- the word is the one that says this verb; or it says none, whichever verb is asked for
 abbrev pub Says : List ℕ → Option Verb → Type 0

@@ -5,6 +5,7 @@ ghost use Rattle.lineforms.specs.Forms.{profile_form, every_other, facts_in, ope
 use account::OpeningForm;
 use facts::{FactsForm, ProfileForm};
 use figures::{NcSum, NeSum};
+use std::array::from_fn;
 use words::all_numbers;
 
 // Six numbers, every other one from a place on.
@@ -12,24 +13,7 @@ fn every_other(n: &[u64], at: usize) -> [u64; 6]
     requires { at + 11 ≤ length n.now }
     ensures { result ≡ every_other n.now at }
 {
-    [
-        n[at],
-        n[at + 2],
-        n[at + 4],
-        n[at + 6],
-        n[at + 8],
-        n[at + 10],
-    ]
-}
-
-// The twelve registers' indices, in the order in which they stand.
-fn twelve(n: &[u64]) -> [u64; 12]
-    requires { length n.now ≡ 12 }
-    ensures { result ≡ n.now }
-{
-    let mut indices = [0; 12];
-    indices.copy_from_slice(n);
-    indices
+    from_fn(|circuit| n[at + 2 * circuit])
 }
 
 // The profile that ten numbers give: class, marks, power, exempt power and six kinds.
@@ -42,11 +26,12 @@ fn profile_form(n: &[u64]) -> ProfileForm
         marks: n[1],
         power: n[2],
         exempt: n[3],
-        kinds: [n[4], n[5], n[6], n[7], n[8], n[9]],
+        kinds: from_fn(|circuit| n[4 + circuit]),
     }
 }
 
 // The facts that a text gives, where it is 25 numbers: a profile, six circuits' kWh by day and by night in turn, months and two sums.
+// By their places, which are those of the form.
 pub fn facts_in(text: &[u8]) -> Option<FactsForm>
     ensures { result ≡ facts_in text.now }
 {
@@ -77,7 +62,7 @@ pub fn opening_in(text: &[u8]) -> Option<OpeningForm>
     Some(OpeningForm {
         profile: profile_form(n),
         first: n[10],
-        indices: twelve(&n[11..23]),
+        indices: n[11..].try_into().ok()?,
     })
 }
 
@@ -85,10 +70,5 @@ pub fn opening_in(text: &[u8]) -> Option<OpeningForm>
 pub fn indices_in(text: &[u8]) -> Option<[u64; 12]>
     ensures { result ≡ indices_in text.now }
 {
-    let numbers = all_numbers(text)?;
-    let n = numbers.as_slice();
-    if n.len() != 12 {
-        return None;
-    }
-    Some(twelve(n))
+    all_numbers(text)?.as_slice().try_into().ok()
 }

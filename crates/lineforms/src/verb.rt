@@ -1,11 +1,11 @@
 // The first words of lines.
 ghost use Rattle.std.specs.Prelude.{◌≡◌};
-ghost use Rattle.lineforms.specs.Verbs.{call_name, verb_name, verb_among, verb_of, Says};
+ghost use Rattle.lineforms.specs.Verbs.{call_name, verb_name, verb_of, Says};
 
-use words::is_word;
+use script::{Named, first_named};
 
 // Which call on a cabinet a line makes.
-#[derive(Clone, Copy)]
+#[derive(Clone, Copy, PartialEq, Eq, Debug)]
 pub enum CallVerb {
     Post,
     Open,
@@ -17,7 +17,7 @@ pub enum CallVerb {
 }
 
 // What the first word of a line asks for.
-#[derive(Clone, Copy)]
+#[derive(Clone, Copy, PartialEq, Eq, Debug)]
 pub enum Verb {
     Rating,
     House,
@@ -50,6 +50,7 @@ const VERBS: [Verb; 15] = [
 
 impl CallVerb {
     // The word that says it.
+    // A name and no printing, since a line's word is compared with it.
     fn name(self) -> &'static str
         ensures { result.now ≡ call_name self }
     {
@@ -65,11 +66,10 @@ impl CallVerb {
     }
 }
 
-impl Verb {
-    // The word that says it.
-    fn name(self) -> &'static str
-        ensures { result.now ≡ verb_name self }
-    {
+impl Named for Verb {
+    ghost name_of = { verb_name };
+
+    fn name(self) -> &'static str {
         match self {
             Verb::Rating => "rating",
             Verb::House => "house",
@@ -84,22 +84,10 @@ impl Verb {
     }
 }
 
-// The first of these verbs that a word says.
-fn verb_among(verbs: &[Verb], word: &[u8]) -> Option<Verb>
-    ensures { result ≡ verb_among verbs.now word.now }
-{
-    for verb in verbs {
-        if is_word(word, verb.name().as_bytes()) {
-            return Some(*verb);
-        }
-    }
-    None
-}
-
 // The verb that a word says.
 pub fn verb_of(word: &[u8]) -> Option<Verb>
     ensures value { result ≡ verb_of word.now }
     ensures says { Says word.now result }
 {
-    verb_among(&VERBS, word)
+    first_named(&VERBS, word)
 }

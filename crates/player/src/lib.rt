@@ -1,17 +1,27 @@
 // Playing a script: it is read line by line, and each line is answered.
 #![tactic(auto)]
 
-ghost use Rattle.std.specs.Prelude.{◌≡◌};
+ghost use Rattle.std.specs.Prelude.{◌≡◌, ℕ, List, Option};
+ghost use Rattle.answers.specs.declared.answer.Answer.{Answer as AnswerTo};
 ghost use Rattle.player.specs.LineEnds.{without_end};
 
-use house::House;
-use pricelines::answer_text;
-use script::Answer;
+use answers::Answer;
 use std::alloc::Global;
 use std::io;
 use std::io::{BufRead, BufReader, BufWriter, ErrorKind, Write};
 
+// What a script is played on: it answers line by line, and a line may move it.
+pub trait Answering {
+    // what answers before a line, the text of the line, its answer, and what answers after it
+    ghost answer_text_gives: { Self → List ℕ → Option AnswerTo → Self → Type 0 };
+
+    // What the text of a line is answered, without its line feed, none where the line is silent.
+    fn answer_text(&mut self, heap: Global, text: &[u8]) -> Option<Answer>
+        ensures { answer_text_gives self.old text.now result self.new };
+}
+
 // What comes next of a script.
+// Three states, and no value in any: the line stands in the place that it was read into.
 enum Next {
     Line,
     // a line for which no memory was found
@@ -50,16 +60,16 @@ fn next_line<In: BufRead>(input: &mut In, line: &mut Vec<u8>) -> io::Result<Next
 }
 
 // Reads a script to its end, and writes the answer to each line in turn.
-fn play_lines<In: BufRead, Out: Write>(
+fn play_lines<On: Answering, In: BufRead, Out: Write>(
     heap: Global,
+    on: &mut On,
     input: &mut In,
     output: &mut Out,
 ) -> io::Result<()> {
-    let mut house = House::new();
     let mut line = Vec::new(heap);
     for _ in 0..u64::MAX {
         let answer = match next_line(input, &mut line)? {
-            Next::Line => answer_text(heap, without_end(line.as_slice()), &mut house),
+            Next::Line => on.answer_text(heap, without_end(line.as_slice())),
             Next::TooLong => Some(Answer::NoMemory),
             Next::End => return output.flush(),
         };
@@ -71,8 +81,8 @@ fn play_lines<In: BufRead, Out: Write>(
 }
 
 // Plays the script on standard input, with the answers on standard output.
-pub fn play(rt: &HostRuntime) -> io::Result<()> {
+pub fn play<On: Answering>(rt: &HostRuntime, on: &mut On) -> io::Result<()> {
     let mut input = BufReader::new(rt.alloc(), rt.stdin())?;
     let mut output = BufWriter::new(rt.alloc(), rt.stdout())?;
-    play_lines(rt.alloc(), &mut input, &mut output)
+    play_lines(rt.alloc(), on, &mut input, &mut output)
 }

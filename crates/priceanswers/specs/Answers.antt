@@ -1,5 +1,6 @@
 -- What each pricing line is answered.
 use Rattle.std.specs.Prelude.{ℕ, Bool, cond, List, length, Some, None, Ok, Err, Option, Result}
+use Rattle.refusal.specs.declared.Refusal.{Refusal}
 use Rattle.rating.specs.declared.RatingFault.{RatingFault}
 use Rattle.rating.specs.Ratings.{rating_refusal}
 use Rattle.facts.specs.declared.form.FactsFault.{FactsFault}
@@ -29,6 +30,11 @@ parts_answer None = answer.NotPermitted
 abbrev pub plan_answer : Option Plan → Answer
 plan_answer (Some p) = answer.Plan p.code p.parts.0 p.parts.1 p.cents
 plan_answer None = answer.NoPlan
+
+-- an answer, or the refusal that stands in its place
+abbrev pub refused_or_answer : Result Answer Refusal → Answer
+refused_or_answer (Ok a) = a
+refused_or_answer (Err r) = answer.Refused r
 
 -- facts outside their limits are refused, whatever the sheet and the code are
 abbrev pub price_line_answer : Tariff → ℕ → Result Usage FactsFault → Answer

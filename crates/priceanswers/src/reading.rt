@@ -21,6 +21,6 @@ pub fn house_answer(heap: Global, text: &[u8], house: &mut House) -> Answer
     };
     match house.read(bytes.as_slice()) {
         Ok(()) => Answer::Lines(house.lines().len() as u64),
-        Err(fault) => Answer::Refused(fault.refusal()),
+        Err(fault) => Answer::Refused(fault.into()),
     }
 }

@@ -1,8 +1,7 @@
-// The answers to the pricing lines of a script.
+// The answers to the pricing lines of a script, from the house sheet alone.
 #![tactic(auto)]
 
+mod alone;
 mod answering;
-mod asked;
-mod reading;
 
-pub use answering::{answer, answer_text};
+pub use alone::Pricing;

@@ -2,8 +2,9 @@
 #![tactic(auto)]
 
 use player::play;
+use pricelines::Pricing;
 use std::io;
 
 fn main(rt: HostRuntime) -> io::Result<()> {
-    play(&rt)
+    play(&rt, &mut Pricing::new())
 }

@@ -4,5 +4,5 @@
 mod numbers;
 mod reply;
 
-pub use numbers::{account_form, bill_figures};
+pub use numbers::bill_figures;
 pub use reply::answer_of;

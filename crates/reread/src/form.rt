@@ -14,26 +14,25 @@ use words::{number, split_word};
 fn profile_of(text: &[u8]) -> Option<(ProfileForm, &[u8])>
     ensures { option_map seen result ≡ profile_of text.now }
 {
-    let powers = leading_numbers::<4>(text)?;
-    let kinds = leading_numbers::<6>(powers.1)?;
-    let [class, marks, power, exempt] = powers.0;
+    let ([class, marks, power, exempt], rest) = leading_numbers::<4>(text)?;
+    let (kinds, rest) = leading_numbers::<6>(rest)?;
     let profile = ProfileForm {
         class,
         marks,
         power,
         exempt,
-        kinds: kinds.0,
+        kinds,
     };
-    Some((profile, kinds.1))
+    Some((profile, rest))
 }
 
 // The registers and the balance at the end of an account.
 fn figures_of(state: u64, profile: ProfileForm, next: u64, text: &[u8]) -> Option<AccountForm>
     ensures { result ≡ figures_of state profile next text.now }
 {
-    let indices = leading_numbers::<12>(text)?;
-    let waiting = leading_numbers::<12>(indices.1)?;
-    let (word, rest) = split_word(waiting.1);
+    let (indices, rest) = leading_numbers::<12>(text)?;
+    let (waiting, rest) = leading_numbers::<12>(rest)?;
+    let (word, rest) = split_word(rest);
     let balance = signed_number(word)?;
     if !is_end(rest) {
         return None;
@@ -42,8 +41,8 @@ fn figures_of(state: u64, profile: ProfileForm, next: u64, text: &[u8]) -> Optio
         state,
         profile,
         next,
-        indices: indices.0,
-        waiting: waiting.0,
+        indices,
+        waiting,
         balance,
     })
 }
@@ -54,20 +53,17 @@ pub fn account_of(text: &[u8]) -> Option<AccountForm>
 {
     let (word, rest) = split_word(text);
     let state = state_of(word)?;
-    let profile = profile_of(rest)?;
-    let (word, rest) = split_word(profile.1);
+    let (profile, rest) = profile_of(rest)?;
+    let (word, rest) = split_word(rest);
     let next = number(word)?;
-    figures_of(state, profile.0, next, rest)
+    figures_of(state, profile, next, rest)
 }
 
 // A number that is a byte.
 fn byte_alone(n: u64) -> Option<u8>
     ensures { result ≡ byte_alone n }
 {
-    if n > 255 {
-        return None;
-    }
-    Some(n as u8)
+    u8::try_from(n).ok()
 }
 
 // `NUMBER LAYER PLACE`

@@ -7,31 +7,22 @@ use crate::form::{account_of, refusal_of};
 use crate::numbered::numbered_of;
 use answers::Answer;
 use answerwords::{is_end, row_of};
-use words::{is_word, split_word};
+use words::split_word;
 
 // The answers that are a word alone.
+#[tactic(auto, using(words::proofs::Names::word_or_not))]
 fn bare_of(word: &[u8]) -> Option<Answer>
     ensures { result ≡ bare_of word.now }
 {
-    if is_word(word, b"not-permitted") {
-        return Some(Answer::NotPermitted);
+    match word {
+        b"not-permitted" => Some(Answer::NotPermitted),
+        b"none" => Some(Answer::NoPlan),
+        b"done" => Some(Answer::Done),
+        b"vacant" => Some(Answer::Vacant),
+        b"unreadable" => Some(Answer::Unreadable),
+        b"no-memory" => Some(Answer::NoMemory),
+        _ => None,
     }
-    if is_word(word, b"none") {
-        return Some(Answer::NoPlan);
-    }
-    if is_word(word, b"done") {
-        return Some(Answer::Done);
-    }
-    if is_word(word, b"vacant") {
-        return Some(Answer::Vacant);
-    }
-    if is_word(word, b"unreadable") {
-        return Some(Answer::Unreadable);
-    }
-    if is_word(word, b"no-memory") {
-        return Some(Answer::NoMemory);
-    }
-    None
 }
 
 // `row HEX`
@@ -47,19 +38,16 @@ fn row_answer(rest: &[u8]) -> Option<Answer>
 }
 
 // The answer of a first word with others behind it.
+#[tactic(auto, using(words::proofs::Names::word_or_not))]
 fn behind_of(word: &[u8], rest: &[u8]) -> Option<Answer>
     ensures { result ≡ behind_of word.now rest.now }
 {
-    if is_word(word, b"account") {
-        return Some(Answer::Account(account_of(rest)?));
+    match word {
+        b"account" => Some(Answer::Account(account_of(rest)?)),
+        b"row" => row_answer(rest),
+        b"refused" => Some(Answer::Refused(refusal_of(rest)?)),
+        _ => numbered_of(word, rest),
     }
-    if is_word(word, b"row") {
-        return row_answer(rest);
-    }
-    if is_word(word, b"refused") {
-        return Some(Answer::Refused(refusal_of(rest)?));
-    }
-    numbered_of(word, rest)
 }
 
 // The answer that a text is, none where it is no answer.

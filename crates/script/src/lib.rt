@@ -1,10 +1,8 @@
-// The lines of a replay script, and the answers to them.
+// The names of the price sheets, as a replay script says them.
 #![tactic(auto)]
 
-mod answer;
 mod line;
-mod reading;
+mod named;
 
-pub use answer::Answer;
-pub use line::{Line, SheetName};
-pub use reading::{read_line, sheet_of};
+pub use line::{SheetName, sheet_of};
+pub use named::{Named, first_named};

@@ -83,6 +83,7 @@ fn store<'a>(rest: &'a [u8]) -> Option<Line<&'a [u8]>>
 }
 
 // What a line asks for by its verb and what stands behind it, none where it is of no form.
+// Lines are made by `Some(..?)`, since a line borrows from the text, and a function that makes one cannot be handed to `map`.
 fn ask<'a>(verb: Verb, rest: &'a [u8]) -> Option<Line<&'a [u8]>>
     ensures { option_map said result ≡ asked verb rest.now }
 {
@@ -103,15 +104,11 @@ fn ask<'a>(verb: Verb, rest: &'a [u8]) -> Option<Line<&'a [u8]>>
 fn line_with<'a>(word: &[u8], rest: &'a [u8]) -> Line<&'a [u8]>
     ensures { said result ≡ line_with word.now rest.now }
 {
-    if word.is_empty() || word[0] == b'#' {
-        return Line::Silent;
-    }
-    let Some(verb) = verb_of(word) else {
-        return Line::Unreadable;
-    };
-    match ask(verb, rest) {
-        Some(line) => line,
-        None => Line::Unreadable,
+    match word {
+        [] | [b'#', ..] => Line::Silent,
+        _ => verb_of(word)
+            .and_then(|verb| ask(verb, rest))
+            .unwrap_or(Line::Unreadable),
     }
 }
 

@@ -1,6 +1,8 @@
 // Tests of a script's lines: each form is read, and its near misses are unreadable.
 #![tactic(auto)]
 
+ghost use Rattle.std.specs.Prelude.{◌≤◌};
+
 #[cfg(test)]
 mod tests {
     use run::Call;
@@ -166,14 +168,12 @@ mod tests {
     }
 
     // A line `store 3` with so many digits behind it, filled up with blanks.
-    fn stored(digits: usize, digit: u8) -> [u8; 300] {
+    fn stored(digits: usize, digit: u8) -> [u8; 300]
+        requires { digits ≤ 292 }
+    {
         let mut line = [b' '; 300];
-        for (place, letter) in line.iter_mut().zip(b"store 3 ") {
-            *place = *letter;
-        }
-        for place in line.iter_mut().skip(8).take(digits) {
-            *place = digit;
-        }
+        line[..8].copy_from_slice(b"store 3 ");
+        line[8..8 + digits].fill(digit);
         line
     }
 

@@ -39,6 +39,7 @@ impl AnySheet {
     }
 }
 
+// A match in each method: a box over any sheet would take memory in a call on a made cabinet.
 impl Sheet for AnySheet {
     ghost tariff = { tariff_of };
 

@@ -1,1 +1,3 @@
 mod Gathered
+pub mod Names
+mod Pairs

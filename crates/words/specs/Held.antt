@@ -1,9 +1,5 @@
--- The numbers that a list of a line's numbers holds.
-use Rattle.std.specs.Prelude.{ℕ, Bool, cond, List, [], ◌∷◌, ◌++◌, length, take, nat_lt}
-use Rattle.words.specs.declared.list.Numbers.{Numbers}
-
-unfoldable pub held : Numbers → List ℕ
-held n = take n.count n.values
+-- The room that a line's numbers have.
+use Rattle.std.specs.Prelude.{ℕ, Bool, cond, List, [], ◌∷◌, ◌++◌, length, nat_lt}
 
 -- 26 numbers are the most
 abbrev pub has_room : List ℕ → Bool

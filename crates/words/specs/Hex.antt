@@ -1,6 +1,6 @@
 -- Bytes in hexadecimal digits.
-use Rattle.std.specs.Prelude.{ℕ, ◌+◌, ◌-◌, ◌*◌, ◌/◌, ◌%◌, Bool, true, cond, ◌&&◌, ◌||◌, List, [], ◌∷◌, map, length, codes, ◌==◌, nat_le, slice_index}
-use Rattle.std.specs.List.{range_with_len}
+use Rattle.std.specs.Prelude.{ℕ, ◌+◌, ◌-◌, ◌*◌, ◌/◌, ◌%◌, Bool, cond, ◌&&◌, ◌||◌, List, map, length, codes, ◌==◌, nat_le, slice_index}
+use Rattle.std.specs.List.{range_with_len, list_all}
 use Rattle.words.specs.Words.{is_word}
 
 -- 0 to 9, a to f, A to F
@@ -12,8 +12,7 @@ digit_of b =
     cond (nat_le 48 b && nat_le b 57) (b - 48) (cond (nat_le 97 b && nat_le b 102) (b - 97 + 10) (cond (nat_le 65 b && nat_le b 70) (b - 65 + 10) 0))
 
 abbrev pub are_hex_digits : List ℕ → Bool
-are_hex_digits [] = true
-are_hex_digits (b ∷ bs) = is_hex_digit b && are_hex_digits bs
+are_hex_digits bytes = list_all is_hex_digit bytes
 
 -- `-` for no bytes, or two digits for each; the empty word is neither
 abbrev pub is_hex : List ℕ → Bool

@@ -6,13 +6,10 @@ ghost use Rattle.words.specs.Numbers.{digit_more, number_of};
 fn with_digit(value: u64, byte: u8) -> Option<u64>
     ensures { result ≡ digit_more value byte }
 {
-    if byte < b'0' || byte > b'9' {
+    if !byte.is_ascii_digit() {
         return None;
     }
-    match value.checked_mul(10) {
-        Some(tens) => tens.checked_add((byte - b'0') as u64),
-        None => None,
-    }
+    value.checked_mul(10)?.checked_add(u64::from(byte - b'0'))
 }
 
 // The number that a word is: 1 to 20 decimal digits that fit 64 bits.
@@ -22,12 +19,9 @@ pub fn number(word: &[u8]) -> Option<u64>
     if word.is_empty() || word.len() > 20 {
         return None;
     }
-    let mut value = 0u64;
+    let mut value = 0;
     for digit in word {
-        let Some(more) = with_digit(value, *digit) else {
-            return None;
-        };
-        value = more;
+        value = with_digit(value, *digit)?;
     }
     Some(value)
 }

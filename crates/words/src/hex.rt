@@ -9,10 +9,11 @@ use std::alloc::{AllocError, Global};
 fn is_hex_digit(byte: u8) -> bool
     ensures { result ≡ is_hex_digit byte }
 {
-    matches!(byte, b'0'..=b'9' | b'a'..=b'f' | b'A'..=b'F')
+    byte.is_ascii_hexdigit()
 }
 
 // The value of a hexadecimal digit, and 0 for any other byte.
+// By ranges, since the library gives a digit's value for a character alone.
 fn digit_of(byte: u8) -> u8
     ensures value { result ≡ digit_of byte }
     ensures bound { result < 16 }
@@ -39,25 +40,16 @@ pub fn is_hex(word: &[u8]) -> bool
     if is_word(word, b"-") {
         return true;
     }
-    if word.is_empty() || word.len() % 2 != 0 {
-        return false;
-    }
-    for byte in word {
-        if !is_hex_digit(*byte) {
-            return false;
-        }
-    }
-    true
+    !word.is_empty() && word.len() % 2 == 0 && word.iter().all(|byte| is_hex_digit(*byte))
 }
 
 // The bytes that a text of hexadecimal digits stands for.
 pub fn unhex(heap: Global, text: &[u8]) -> Result<Vec<u8>, AllocError>
     ensures { IfOk result (λ v. v.items ≡ bytes_of text.now) }
 {
-    let count = text.len() / 2;
-    let mut bytes = Vec::with_capacity(heap, count)?;
-    for i in 0..count {
-        bytes.push_reserved(hex_byte(text[2 * i], text[2 * i + 1]));
-    }
-    Ok(bytes)
+    let (pairs, _) = text.as_chunks::<2>();
+    pairs
+        .iter()
+        .map(|[high, low]| hex_byte(*high, *low))
+        .collect(heap)
 }

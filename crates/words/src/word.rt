@@ -6,7 +6,7 @@ ghost use Rattle.words.specs.Words.{is_blank, is_word, span_of, word_of, rest_of
 fn is_blank(byte: u8) -> bool
     ensures { result ≡ is_blank byte }
 {
-    byte == b' ' || byte == b'\t'
+    matches!(byte, b' ' | b'\t')
 }
 
 // How many bytes at the front are blank, or are not.
@@ -14,12 +14,10 @@ fn span(bytes: &[u8], blank: bool) -> usize
     ensures value { result ≡ span_of blank bytes.now }
     ensures bound { result ≤ length bytes.now }
 {
-    for (i, byte) in bytes.iter().enumerate() {
-        if is_blank(*byte) != blank {
-            return i;
-        }
-    }
-    bytes.len()
+    bytes
+        .iter()
+        .position(|byte| is_blank(*byte) != blank)
+        .unwrap_or(bytes.len())
 }
 
 // The first word of a line, empty where there is none, and what stands behind it.

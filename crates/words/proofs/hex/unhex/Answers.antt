@@ -1,11 +1,13 @@
-use Rattle.std.proofs.Common.{◌≡◌, [], ◌∷◌, ◌++◌, vec_items, arith, rules}
-use Rattle.std.proofs.lemmas.List.FromFn.{map-range_with_len_more}
-use Rattle.words.specs.Hex.{byte_at}
+use Rattle.std.proofs.Common.{◌≡◌, ℕ, ◌*◌, ◌/◌, ◌≤◌, List, IfOk, map, length, slice_index, rules, arith}
+use Rattle.std.specs.Simd.{first_chunks}
+use Rattle.words.specs.Hex.{byte_of}
+use Rattle.words.proofs.Pairs.{bytes_of_pairs}
 use Rattle.words.proofs.hex.unhex.Goals as goal
 
-pub loop-i-preserved : goal.loop-i-preserved
-loop-i-preserved c =
-    let m = map-range_with_len_more (byte_at c.args.text.now) 0 c.loop-i.i c.loop-i.i (omega arith) in
-    let b : c.hex_byte.result ≡ byte_at c.args.text.now c.loop-i.i = c.hex_byte.ensures in
-    let p : vec_items c.push_reserved.new.self ≡ vec_items c.loop-i.bytes ++ c.hex_byte.result ∷ [] = c.push_reserved.ensures.items in
-    (cc, search rules, search rules)
+pub returns : goal.returns
+returns c =
+    let text = c.args.text.now in
+    let half : 2 * (length text / 2) ≤ length text = omega arith in
+    let mapped : IfOk c.collect.result (λ v. v.items ≡ map (λ (p : List ℕ). byte_of (slice_index p 0) (slice_index p 1)) (first_chunks 2 (length text / 2) text)) = search rules in
+    let same = bytes_of_pairs (length text / 2) text half in
+    search rules

@@ -1,34 +1,28 @@
-use Rattle.std.proofs.Common.{◌≡◌, ◌+◌, ◌<◌, ◌≤◌, cond, length, get_or, drop, arith}
-use mathlib.Core.Bool.{beq}
+use Rattle.std.proofs.Common.{◌≡◌, ℕ, ◌+◌, Bool, true, false, not, cond, List, length, refl, tests, sym, ap, ◌∙◌, rules, arith}
+use Rattle.std.specs.Bool.{beq}
+use Rattle.std.specs.Option.{unwrap_or}
+use Rattle.std.specs.List.{position, position_or_len}
 use Rattle.std.proofs.lemmas.Bool.Decides.{nat_tests}
-use Rattle.std.proofs.lemmas.List.{at_drop_more, at_drop_all}
+use Rattle.std.proofs.lemmas.Iterator.{YieldsList-from_slice}
+use Rattle.std.proofs.lemmas.Iterator.Search.{position_from_yields_List}
+use Rattle.std.proofs.lemmas.List.Sums.{prefix_len-le-length}
+use Rattle.std.proofs.lemmas.List.Recursion.{is_position_or_len}
 use Rattle.words.specs.Words.{is_blank, span_of}
 use Rattle.words.proofs.word.span.Goals as goal
 
-pub loop-i-init : goal.loop-i-init
-loop-i-init c = omega arith
+turned : (b : Bool) (m n : ℕ) → cond b m n ≡ cond (not b) n m
+turned true m n = refl
+turned false m n = refl
 
-pub loop-i-preserved : goal.loop-i-preserved
-loop-i-preserved c =
+-- the first that passes, or else the length
+found_or_all : (p : ℕ → Bool) (xs : List ℕ) → unwrap_or (position p xs) (length xs) ≡ position_or_len p xs
+found_or_all p xs = let all = prefix_len-le-length (λ x. not (p x)) xs in grind (arith, nat_tests)
+
+pub returns-clause-value : goal.returns-clause-value
+returns-clause-value c =
     let bytes = c.args.bytes.now in
     let blank = c.args.blank in
-    let i = c.loop-i.i in
-    let h : i < length bytes = omega arith in
-    let m : span_of blank (drop i bytes) ≡ cond (beq (is_blank (get_or bytes i 0)) blank) (1 + span_of blank (drop (i + 1) bytes)) 0 = at_drop_more (span_of blank) bytes i 0 h in
-    grind (arith, nat_tests)
-
-pub returns-then-is_blank-blank : goal.returns-then-is_blank-blank
-returns-then-is_blank-blank c =
-    let bytes = c.args.bytes.now in
-    let blank = c.args.blank in
-    let i = c.loop-i.i in
-    let h : i < length bytes = omega arith in
-    let m : span_of blank (drop i bytes) ≡ cond (beq (is_blank (get_or bytes i 0)) blank) (1 + span_of blank (drop (i + 1) bytes)) 0 = at_drop_more (span_of blank) bytes i 0 h in
-    record { value = grind (arith, nat_tests); bound = omega arith }
-
-pub returns : goal.returns
-returns c =
-    let bytes = c.args.bytes.now in
-    let h : length bytes ≤ c.loop-i.i = omega arith in
-    let m : span_of c.args.blank (drop c.loop-i.i bytes) ≡ 0 = at_drop_all (span_of c.args.blank) bytes c.loop-i.i h in
-    record { value = omega arith; bound = omega arith }
+    let other : ℕ → Bool = λ b. not (beq (is_blank b) blank) in
+    let found : c.position.result ≡ position other bytes = position_from_yields_List other _ _ c.position.result c.position.ensures.ran (YieldsList-from_slice _ c.iter.ensures.rest) (λ x b q k. search (rules, tests)) in
+    let span : span_of blank bytes ≡ position_or_len other bytes = is_position_or_len (span_of blank) other refl (λ x xs. turned (beq (is_blank x) blank) (1 + span_of blank xs) 0) bytes in
+    c.unwrap_or.ensures ∙ ap (λ o. unwrap_or o (length bytes)) found ∙ found_or_all other bytes ∙ sym span
