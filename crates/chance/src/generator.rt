@@ -1,6 +1,6 @@
 // A generator without state: each number is made from the seed and the place that it is drawn for, by the multiplications and shifts of SplitMix64.
 ghost use Rattle.std.specs.Prelude.{◌≡◌, ◌<◌};
-ghost use Rattle.chance.specs.Drawn.{stirred, mixed, drawn, drawn_below};
+ghost use Rattle.chance.specs.Drawn.{stirred, mixed, drawn, drawn_below, DrawnFrom};
 
 // The distance between the places of a sequence.
 const STRIDE: u64 = 0x9e37_79b9_7f4a_7c15;
@@ -60,5 +60,13 @@ impl Chance {
             return 0;
         }
         self.draw(place) % count
+    }
+
+    // One of these, whichever the place's number falls on.
+    pub fn pick<T: Copy, const N: usize>(self, place: u64, from: &[T; N]) -> T
+        requires { 0 < N }
+        ensures { DrawnFrom self.seed place from.now result }
+    {
+        from[self.below(place, N as u64) as usize]
     }
 }

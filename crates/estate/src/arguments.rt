@@ -22,41 +22,45 @@ const DEFAULT: Asked = Asked {
     script: false,
 };
 
-// The argument as the number of its place, behind so many numbers before it.
-fn take_number(asked: &mut Asked, place: u8, number: u64) -> bool {
-    match place {
-        0 => asked.dwellings = number,
-        1 => asked.years = number,
-        2 => asked.seed = number,
-        _ => return false,
-    }
-    true
-}
-
 fn is_within(asked: &Asked) -> bool {
-    asked.dwellings >= 1 && asked.dwellings <= 4_096 && asked.years >= 1 && asked.years <= 100
+    (1..=4_096).contains(&asked.dwellings) && (1..=100).contains(&asked.years)
 }
 
 // Reads the arguments, or says how they are to be.
 pub fn read(rt: &HostRuntime) -> anyhow::Result<Asked> {
-    let mut asked = DEFAULT;
-    let mut place = 0u8;
+    let mut script = false;
+    let mut numbers = Vec::new(rt.alloc());
     for word in env::args(rt)?.skip(1) {
         if word.as_str() == "--script" {
-            asked.script = true;
-            continue;
-        }
-        let Ok(number) = word.as_str().parse::<u64>() else {
-            bail!("{USAGE}");
-        };
-        if !take_number(&mut asked, place, number) {
+            script = true;
+        } else if let Ok(number) = word.as_str().parse::<u64>() {
+            numbers.push(number)?;
+        } else {
             bail!("{USAGE}");
         }
-        place = place.saturating_add(1);
     }
-    if is_within(&asked) {
-        Ok(asked)
-    } else {
-        bail!("{USAGE}")
+    let asked = match *numbers.as_slice() {
+        [] => DEFAULT,
+        [dwellings] => Asked {
+            dwellings,
+            ..DEFAULT
+        },
+        [dwellings, years] => Asked {
+            dwellings,
+            years,
+            ..DEFAULT
+        },
+        [dwellings, years, seed] => Asked {
+            dwellings,
+            years,
+            seed,
+            ..DEFAULT
+        },
+        _ => bail!("{USAGE}"),
+    };
+    let asked = Asked { script, ..asked };
+    if !is_within(&asked) {
+        bail!("{USAGE}");
     }
+    Ok(asked)
 }

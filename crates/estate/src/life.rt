@@ -1,6 +1,6 @@
 // The years of an estate, one after the other.
 use crate::arguments::Asked;
-use crate::printing::{print_board, print_call, print_house};
+use crate::printing::{CallLine, print_board, print_house};
 use crate::report::{print_checks, print_heading, print_total, print_year};
 use estatelife::Estate;
 use tenants::Round;
@@ -18,78 +18,94 @@ const MONTH: [Round; 8] = [
     Round::Slipping(66),
 ];
 
-fn print_calls(rt: &HostRuntime, estate: &Estate, asked: Asked) -> anyhow::Result<()> {
-    if asked.script {
-        for call in estate.calls() {
-            print_call(rt, call)?;
+// An estate and what is asked of it.
+#[derive(Drop)]
+struct Life {
+    estate: Estate,
+    asked: Asked,
+}
+
+impl Life {
+    fn print_calls(&self, rt: &HostRuntime) -> anyhow::Result<()> {
+        if self.asked.script {
+            for call in self.estate.calls() {
+                let line = CallLine(call);
+                println!(rt; "{line}")?;
+            }
         }
+        Ok(())
     }
-    Ok(())
-}
 
-// Says on standard error how far the work is.
-fn print_progress(rt: &HostRuntime, year: u64, asked: Asked) -> anyhow::Result<()> {
-    let done = year.saturating_add(1);
-    let years = asked.years;
-    eprintln!(rt; "year {done} of {years}")?;
-    Ok(())
-}
+    // Says on standard error how far the work is.
+    fn print_progress(&self, rt: &HostRuntime, year: u64) -> anyhow::Result<()> {
+        let years = self.asked.years;
+        eprintln!(rt; "year {year} of {years}")?;
+        Ok(())
+    }
 
-fn run_month(rt: &HostRuntime, estate: &mut Estate, asked: Asked) -> anyhow::Result<()> {
-    estate.post()?;
-    print_calls(rt, estate, asked)?;
-    for round in MONTH {
-        estate.make(round)?;
-        print_calls(rt, estate, asked)?;
+    fn make(&mut self, rt: &HostRuntime, round: Round) -> anyhow::Result<()> {
+        self.estate.make(round)?;
+        self.print_calls(rt)
     }
-    estate.end_month();
-    Ok(())
-}
 
-fn run_year(rt: &HostRuntime, estate: &mut Estate, asked: Asked) -> anyhow::Result<()> {
-    let list = estate.begin_year(rt.alloc())?;
-    if asked.script {
-        print_house(rt, list.as_slice())?;
+    fn run_month(&mut self, rt: &HostRuntime) -> anyhow::Result<()> {
+        self.estate.post()?;
+        self.print_calls(rt)?;
+        for round in MONTH {
+            self.make(rt, round)?;
+        }
+        self.estate.end_month();
+        Ok(())
     }
-    for _ in 0..12u8 {
-        run_month(rt, estate, asked)?;
-    }
-    estate.make(Round::Showing)?;
-    print_calls(rt, estate, asked)
-}
 
-// Prints all calls of the estate as a script.
-fn run_script(rt: &HostRuntime, estate: &mut Estate, asked: Asked) -> anyhow::Result<()> {
-    print_board(rt, asked.dwellings, journal_length(asked.dwellings))?;
-    for year in 0..asked.years {
-        run_year(rt, estate, asked)?;
-        print_progress(rt, year, asked)?;
+    fn run_year(&mut self, rt: &HostRuntime) -> anyhow::Result<()> {
+        let list = self.estate.begin_year(rt.alloc())?;
+        if self.asked.script {
+            print_house(rt, list.as_slice())?;
+        }
+        for _ in 0..12u8 {
+            self.run_month(rt)?;
+        }
+        self.make(rt, Round::Showing)
     }
-    Ok(())
-}
 
-// Prints a line a year, and what was held against each other.
-fn run_table(rt: &HostRuntime, estate: &mut Estate, asked: Asked) -> anyhow::Result<()> {
-    print_heading(rt, &asked)?;
-    let mut total = estate.end_year();
-    for year in 0..asked.years {
-        run_year(rt, estate, asked)?;
-        let row = estate.end_year();
-        print_year(rt, year.saturating_add(1), &row)?;
-        print_progress(rt, year, asked)?;
-        total = total.then(row);
+    // Prints all calls of the estate as a script.
+    // Beside the next method, since that one adds the years up and prints a row for each.
+    fn run_script(&mut self, rt: &HostRuntime) -> anyhow::Result<()> {
+        let dwellings = self.asked.dwellings;
+        print_board(rt, dwellings, journal_length(dwellings))?;
+        for year in 1..=self.asked.years {
+            self.run_year(rt)?;
+            self.print_progress(rt, year)?;
+        }
+        Ok(())
     }
-    print_total(rt, &total)?;
-    print_checks(rt, total.sums.calls, estate.shown(), estate.differences())?;
-    Ok(())
+
+    // Prints a line a year, and what was held against each other.
+    fn run_table(&mut self, rt: &HostRuntime) -> anyhow::Result<()> {
+        print_heading(rt, &self.asked)?;
+        let mut total = self.estate.end_year();
+        for year in 1..=self.asked.years {
+            self.run_year(rt)?;
+            let row = self.estate.end_year();
+            print_year(rt, year, &row)?;
+            self.print_progress(rt, year)?;
+            total = total.then(row);
+        }
+        print_total(rt, &total)?;
+        let estate = &self.estate;
+        print_checks(rt, total.sums.calls, estate.shown(), estate.differences())?;
+        Ok(())
+    }
 }
 
 // Runs the estate that is asked for.
 pub fn run(rt: &HostRuntime, asked: Asked) -> anyhow::Result<()> {
-    let mut estate = Estate::new(rt.alloc(), asked.seed, asked.dwellings)?;
+    let estate = Estate::new(rt.alloc(), asked.seed, asked.dwellings)?;
+    let mut life = Life { estate, asked };
     if asked.script {
-        run_script(rt, &mut estate, asked)
+        life.run_script(rt)
     } else {
-        run_table(rt, &mut estate, asked)
+        life.run_table(rt)
     }
 }

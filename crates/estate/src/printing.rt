@@ -1,23 +1,51 @@
 // Calls as the lines of a replay script.
+use account::OpeningForm;
+use answers::{Hex, Spaced};
 use facts::ProfileForm;
 use lineforms::SheetName;
 use run::Call;
-use std::io;
+use std::{fmt, io};
 
-fn sheet_word(sheet: SheetName) -> &'static str {
-    match sheet {
-        SheetName::Decree => "decree",
-        SheetName::House => "house",
-        SheetName::ProtectedDecree => "protected-decree",
-        SheetName::ProtectedHouse => "protected-house",
+// A call as the line that asks for it.
+#[derive(Clone, Copy)]
+pub struct CallLine<'a>(pub &'a Call<SheetName>);
+
+impl fmt::Display for CallLine<'_> {
+    fn fmt<W: fmt::Write>(&self, f: &mut fmt::Formatter<W>) -> fmt::Result {
+        match self.0 {
+            Call::Post { s, mx, nc } => write!(f, "post {s} {mx} {nc}"),
+            Call::Open { number, form } => write_opening(f, *number, form),
+            Call::Read { number, indices } => {
+                let indices = Spaced(indices);
+                write!(f, "read {number}{indices}")
+            }
+            Call::Settle { number, end, sheet } => write!(f, "settle {number} {end} {sheet}"),
+            Call::Pay { number, cents } => write!(f, "pay {number} {cents}"),
+            Call::Close { number } => write!(f, "close {number}"),
+            Call::Show { number } => write!(f, "show {number}"),
+        }
     }
 }
 
-fn print_numbers(rt: &impl Print, numbers: &[u64]) -> io::Result<()> {
-    for number in numbers {
-        print!(rt; " {number}")?;
-    }
-    Ok(())
+fn write_opening<W: fmt::Write>(
+    f: &mut fmt::Formatter<W>,
+    number: u64,
+    form: &OpeningForm,
+) -> fmt::Result {
+    let ProfileForm {
+        class,
+        marks,
+        power,
+        exempt,
+        ..
+    } = form.profile;
+    let kinds = Spaced(&form.profile.kinds);
+    let first = form.first;
+    let indices = Spaced(&form.indices);
+    write!(
+        f,
+        "open {number} {class} {marks} {power} {exempt}{kinds} {first}{indices}"
+    )
 }
 
 // The board that the script is played on, a journal of so many numbers and entries.
@@ -27,48 +55,6 @@ pub fn print_board(rt: &impl Print, numbers: u64, bytes: u64) -> io::Result<()> 
 
 // The price list of a year.
 pub fn print_house(rt: &impl Print, bytes: &[u8]) -> io::Result<()> {
-    print!(rt; "house ")?;
-    for byte in bytes {
-        print!(rt; "{byte:02x}")?;
-    }
-    println!(rt)
-}
-
-fn print_opening(
-    rt: &impl Print,
-    number: u64,
-    profile: &ProfileForm,
-    first: u64,
-    indices: &[u64; 12],
-) -> io::Result<()> {
-    let class = profile.class;
-    let marks = profile.marks;
-    let power = profile.power;
-    let exempt = profile.exempt;
-    print!(rt; "open {number} {class} {marks} {power} {exempt}")?;
-    print_numbers(rt, &profile.kinds)?;
-    print!(rt; " {first}")?;
-    print_numbers(rt, indices)?;
-    println!(rt)
-}
-
-pub fn print_call(rt: &impl Print, call: &Call<SheetName>) -> io::Result<()> {
-    match call {
-        Call::Post { s, mx, nc } => println!(rt; "post {s} {mx} {nc}"),
-        Call::Open { number, form } => {
-            print_opening(rt, *number, &form.profile, form.first, &form.indices)
-        }
-        Call::Read { number, indices } => {
-            print!(rt; "read {number}")?;
-            print_numbers(rt, indices)?;
-            println!(rt)
-        }
-        Call::Settle { number, end, sheet } => {
-            let sheet = sheet_word(*sheet);
-            println!(rt; "settle {number} {end} {sheet}")
-        }
-        Call::Pay { number, cents } => println!(rt; "pay {number} {cents}"),
-        Call::Close { number } => println!(rt; "close {number}"),
-        Call::Show { number } => println!(rt; "show {number}"),
-    }
+    let bytes = Hex(bytes);
+    println!(rt; "house {bytes}")
 }

@@ -2,6 +2,7 @@
 use crate::arguments::Asked;
 use estatelife::{Differences, Year};
 use std::{fmt, io};
+use tally::{Energy, YearSums};
 
 // An amount in cents, written in euros and right-aligned.
 #[derive(Clone, Copy)]
@@ -21,9 +22,12 @@ impl fmt::Display for Euros {
 
 // The heading, with the units of the columns.
 pub fn print_heading(rt: &impl Print, asked: &Asked) -> io::Result<()> {
-    let dwellings = asked.dwellings;
-    let years = asked.years;
-    let seed = asked.seed;
+    let Asked {
+        dwellings,
+        years,
+        seed,
+        ..
+    } = *asked;
     println!(rt;
         "An estate of {dwellings} dwellings over {years} years (seed {seed}), on a table board and on a journal board side by side"
     )?;
@@ -37,15 +41,17 @@ pub fn print_heading(rt: &impl Print, asked: &Asked) -> io::Result<()> {
 }
 
 fn print_row(rt: &impl Print, year: &Year) -> io::Result<()> {
-    let occupied = year.occupied;
-    let bills = year.sums.bills;
-    let day = year.sums.energy.day;
-    let night = year.sums.energy.night;
-    let billed = Euros(year.sums.charged as i128);
-    let paid = Euros(year.sums.paid as i128);
-    let owing = Euros(year.owing);
-    let refused = year.sums.refused;
-    let clearings = year.clearings;
+    let Year {
+        occupied,
+        owing,
+        sums,
+        clearings,
+    } = *year;
+    let YearSums { refused, bills, .. } = sums;
+    let Energy { day, night } = sums.energy;
+    let billed = Euros(sums.charged as i128);
+    let paid = Euros(sums.paid as i128);
+    let owing = Euros(owing);
     print!(rt; "{occupied:>10}{bills:>8}{day:>12}{night:>12}")?;
     println!(rt; "{billed}{paid}{owing}{refused:>8}{clearings:>9}")
 }
@@ -69,9 +75,11 @@ pub fn print_checks(
     shown: u64,
     differences: Differences,
 ) -> io::Result<()> {
-    let boards = differences.boards;
-    let outcomes = differences.outcomes;
-    let accounts = differences.accounts;
+    let Differences {
+        boards,
+        outcomes,
+        accounts,
+    } = differences;
     println!(rt)?;
     println!(rt;
         "{calls:>10} calls made on each board; answered differently by the two: {boards}"
@@ -83,7 +91,7 @@ pub fn print_checks(
         "{shown:>10} numbers shown at year ends; balance or kWh other than bills, payments and readings give: {accounts}"
     )?;
     println!(rt)?;
-    if boards == 0 && outcomes == 0 && accounts == 0 {
+    if differences == Differences::default() {
         println!(rt; "Both boards agree, and the ledger agrees with the meters.")
     } else {
         println!(rt; "There are differences.")

@@ -63,11 +63,8 @@ impl Estate {
     // Posts the month that begins.
     pub fn post(&mut self) -> Result<(), EstateFault> {
         self.calls.clear();
-        self.calls.push(Call::Post {
-            s: self.indices.s,
-            mx: self.indices.mx,
-            nc: self.indices.nc,
-        })?;
+        let MonthIndices { s, mx, nc } = self.indices;
+        self.calls.push(Call::Post { s, mx, nc })?;
         self.indices = self.indices.next(self.chance.at(MONTHS).at(self.month));
         self.make_calls(false)
     }
@@ -96,8 +93,9 @@ impl Estate {
                 estate: self.chance,
                 number: i as u64,
                 month: self.month,
+                tally: *tally,
             };
-            if let Some(call) = round.call(visit, tally) {
+            if let Some(call) = round.call(&visit) {
                 self.calls.push(call)?;
             }
         }

@@ -6,7 +6,7 @@ use std::error::Error;
 use std::fmt;
 use twoboards::NoPair;
 
-#[derive(Clone, Copy, Debug)]
+#[derive(Clone, Copy, PartialEq, Eq, Debug)]
 pub enum EstateFault {
     // a board has 1 to 4,096 numbers
     Dwellings,

@@ -3,7 +3,6 @@
 
 mod estate;
 mod fault;
-mod handing;
 mod office;
 mod year;
 

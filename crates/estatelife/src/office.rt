@@ -1,15 +1,16 @@
 // The office of an estate: it makes calls on both boards and keeps its own sums.
-use crate::handing::with_sheet;
-use crate::year::{Year, occupied_in, owing_in};
+use crate::year::Year;
 use house::House;
 use lineforms::SheetName;
 use run::{Answer, Call, NoRoom};
+use sheets::AnySheet;
 use std::alloc::{AllocError, Global};
-use tally::{Tally, YearSums, number_of};
+use std::mem;
+use tally::{Tally, YearSums, after, is_shown};
 use twoboards::{NoPair, Pair, is_alike};
 
 // How often an answer was not the one expected: it differed from board to board; a call was accepted that should be refused, or refused that should be accepted; an account was shown otherwise than the sums say.
-#[derive(Clone, Copy)]
+#[derive(Clone, Copy, PartialEq, Eq, Default, Debug)]
 pub struct Differences {
     pub boards: u64,
     pub outcomes: u64,
@@ -19,7 +20,8 @@ pub struct Differences {
 #[derive(Drop)]
 pub struct Office {
     pair: Pair,
-    tallies: Vec<Tally>,
+    // the sums of each number's account, none where it is vacant
+    tallies: Vec<Option<Tally>>,
     on_table: Vec<Answer>,
     on_journal: Vec<Answer>,
     sums: YearSums,
@@ -28,31 +30,30 @@ pub struct Office {
     shown: u64,
 }
 
-fn one_more(count: u64) -> u64 {
-    count.saturating_add(1)
+// Counts one more where the case is met.
+fn count(counter: &mut u64, met: bool) {
+    if met {
+        *counter = counter.saturating_add(1);
+    }
 }
 
 impl Office {
     pub fn new(heap: Global, dwellings: u64) -> Result<Office, NoPair> {
         let pair = Pair::new(heap, dwellings)?;
-        let tallies = vec![in heap; Tally::vacant(); dwellings as usize]?;
+        let tallies = vec![in heap; None; dwellings as usize]?;
         Ok(Office {
             pair,
             tallies,
             on_table: Vec::with_capacity(heap, 1)?,
             on_journal: Vec::with_capacity(heap, 1)?,
-            sums: YearSums::new(),
+            sums: YearSums::default(),
             clearings: 0,
-            differences: Differences {
-                boards: 0,
-                outcomes: 0,
-                accounts: 0,
-            },
+            differences: Differences::default(),
             shown: 0,
         })
     }
 
-    pub fn tallies(&self) -> &[Tally] {
+    pub fn tallies(&self) -> &[Option<Tally>] {
         self.tallies.as_slice()
     }
 
@@ -66,25 +67,23 @@ impl Office {
 
     // Takes in a call and its answers.
     fn take(&mut self, call: &Call<SheetName>, refused: bool) {
-        if let ([answer], [other]) = (self.on_table.as_slice(), self.on_journal.as_slice()) {
-            if !is_alike(answer, other) {
-                self.differences.boards = one_more(self.differences.boards);
-            }
-            if matches!(answer, Answer::Refused(_)) != refused {
-                self.differences.outcomes = one_more(self.differences.outcomes);
-            }
-            self.sums.take(call, answer);
-            if let Some(number) = number_of(call) {
-                if let Some(tally) = self.tallies.get_mut(number as usize) {
-                    tally.take(call, answer);
-                    if matches!(call, Call::Show { .. }) {
-                        self.shown = one_more(self.shown);
-                        if !tally.is_shown_by(answer) {
-                            self.differences.accounts = one_more(self.differences.accounts);
-                        }
-                    }
-                }
-            }
+        let ([answer], [other]) = (self.on_table.as_slice(), self.on_journal.as_slice()) else {
+            return;
+        };
+        let was_refused = matches!(answer, Answer::Refused(_));
+        count(&mut self.differences.boards, !is_alike(answer, other));
+        count(&mut self.differences.outcomes, was_refused != refused);
+        self.sums.take(call, answer);
+        let Some(number) = call.number() else {
+            return;
+        };
+        let Some(tally) = self.tallies.get_mut(number as usize) else {
+            return;
+        };
+        *tally = after(*tally, call, answer);
+        if matches!(call, Call::Show { .. }) {
+            count(&mut self.shown, true);
+            count(&mut self.differences.accounts, !is_shown(*tally, answer));
         }
     }
 
@@ -98,26 +97,24 @@ impl Office {
         let before = self.pair.entries_in_use();
         self.on_table.clear();
         self.on_journal.clear();
-        let calls = [with_sheet(call, house)];
+        let calls = [call.map_sheet(|name| AnySheet::named(*name, house))];
         self.pair
             .run(&calls, &mut self.on_table, &mut self.on_journal)?;
-        if self.pair.entries_in_use() < before {
-            self.clearings = one_more(self.clearings);
-        }
+        let fewer = self.pair.entries_in_use() < before;
+        count(&mut self.clearings, fewer);
         self.take(call, refused);
         Ok(())
     }
 
     // What the year came to; the next one begins.
     pub fn end_year(&mut self) -> Year {
-        let year = Year {
-            occupied: occupied_in(self.tallies.as_slice()),
-            owing: owing_in(self.tallies.as_slice()),
-            sums: self.sums,
-            clearings: self.clearings,
-        };
-        self.sums = YearSums::new();
-        self.clearings = 0;
-        year
+        let open = self.tallies.iter().flatten();
+        let owing = self.tallies.iter().flatten();
+        Year {
+            occupied: open.count() as u64,
+            owing: owing.fold(0, |sum: i128, tally| sum.saturating_add(tally.owed())),
+            sums: mem::take(&mut self.sums),
+            clearings: mem::take(&mut self.clearings),
+        }
     }
 }

@@ -1,5 +1,5 @@
 // What a year of an estate came to.
-use tally::{Tally, YearSums};
+use tally::YearSums;
 
 // The accounts open at its end and what they owe, the sums of its calls, and how often the journal was cleared out.
 #[derive(Clone, Copy)]
@@ -20,24 +20,4 @@ impl Year {
             clearings: self.clearings.saturating_add(next.clearings),
         }
     }
-}
-
-// How many accounts are open.
-pub fn occupied_in(tallies: &[Tally]) -> u64 {
-    let mut count = 0u64;
-    for tally in tallies {
-        if tally.occupied {
-            count = count.saturating_add(1);
-        }
-    }
-    count
-}
-
-// The cents that all accounts owe, those in credit counted against them.
-pub fn owing_in(tallies: &[Tally]) -> i128 {
-    let mut sum = 0i128;
-    for tally in tallies {
-        sum = sum.saturating_add(tally.owed());
-    }
-    sum
 }

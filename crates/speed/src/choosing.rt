@@ -23,15 +23,10 @@ fn usage(i: u64) -> FactsForm {
     }
 }
 
-// The sum of the chosen plans' codes and cents.
-pub fn choose_often(count: u64) -> u64 {
-    let mut sum = 0u64;
-    for i in 0..count {
-        if let Ok(facts) = Facts::new(&usage(i)) {
-            if let Some(plan) = choose(&Decree, &facts) {
-                sum = sum.wrapping_add(plan.code).wrapping_add(plan.cents);
-            }
-        }
+// The code and the cents of the plan chosen for a number, added up.
+pub fn choose_for(number: u64) -> u64 {
+    match Facts::new(&usage(number)) {
+        Ok(facts) => choose(&Decree, &facts).map_or(0, |plan| plan.code.wrapping_add(plan.cents)),
+        Err(_) => 0,
     }
-    sum
 }

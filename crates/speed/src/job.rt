@@ -1,5 +1,8 @@
 // What is to be measured.
-use std::time::Instant;
+use board::MOST_NUMBERS;
+use journal::ENTRY;
+use std::str::FromStr;
+use table::SLOT;
 
 // The kinds of work.
 #[derive(Clone, Copy)]
@@ -33,31 +36,36 @@ pub struct Job {
     pub count: u64,
 }
 
-fn work_named(word: &str) -> Option<Work> {
-    match word {
-        "choose" => Some(Work::Choose),
-        "load" => Some(Work::Load),
-        "store" => Some(Work::Store),
-        "post" => Some(Work::Post),
-        "read" => Some(Work::Read),
-        "settle" => Some(Work::Settle),
-        "pay" => Some(Work::Pay),
-        _ => None,
+// The word names no work, or no board.
+#[derive(Clone, Copy)]
+pub struct UnknownWord;
+
+impl FromStr for Work {
+    type Err = UnknownWord;
+
+    fn from_str(word: &str) -> Result<Work, UnknownWord> {
+        match word {
+            "choose" => Ok(Work::Choose),
+            "load" => Ok(Work::Load),
+            "store" => Ok(Work::Store),
+            "post" => Ok(Work::Post),
+            "read" => Ok(Work::Read),
+            "settle" => Ok(Work::Settle),
+            "pay" => Ok(Work::Pay),
+            _ => Err(UnknownWord),
+        }
     }
 }
 
-fn board_named(word: &str) -> Option<BoardKind> {
-    match word {
-        "table" => Some(BoardKind::Table),
-        "journal" => Some(BoardKind::Journal),
-        _ => None,
-    }
-}
+impl FromStr for BoardKind {
+    type Err = UnknownWord;
 
-fn number(word: &String) -> Option<u64> {
-    match word.as_str().parse::<u64>() {
-        Ok(value) => Some(value),
-        Err(_) => None,
+    fn from_str(word: &str) -> Result<BoardKind, UnknownWord> {
+        match word {
+            "table" => Ok(BoardKind::Table),
+            "journal" => Ok(BoardKind::Journal),
+            _ => Err(UnknownWord),
+        }
     }
 }
 
@@ -68,29 +76,22 @@ impl Job {
             return None;
         };
         Some(Job {
-            work: work_named(work.as_str())?,
-            board: board_named(board.as_str())?,
-            accounts: number(accounts)?,
-            entries: number(entries)?,
-            months: number(months)?,
-            count: number(count)?,
+            work: work.as_str().parse().ok()?,
+            board: board.as_str().parse().ok()?,
+            accounts: accounts.as_str().parse().ok()?,
+            entries: entries.as_str().parse().ok()?,
+            months: months.as_str().parse().ok()?,
+            count: count.as_str().parse().ok()?,
         })
     }
 
     // The bytes of a table board for the accounts; what no board can have is cut, and refused at the making.
     pub fn table_length(&self) -> usize {
-        129 * self.accounts.min(4_097) as usize
+        SLOT * self.accounts.min(MOST_NUMBERS as u64 + 1) as usize
     }
 
     // The bytes of a journal board with the entries.
     pub fn journal_length(&self) -> usize {
-        131 * self.entries.min(65_536) as usize
+        ENTRY * self.entries.min(65_536) as usize
     }
-}
-
-// Tells the time since a start.
-pub fn report(rt: &HostRuntime, start: Instant) -> anyhow::Result<()> {
-    let taken = start.elapsed(rt)?.as_nanos();
-    eprintln!(rt; "{taken}")?;
-    Ok(())
 }

@@ -4,17 +4,18 @@
 mod accounts;
 mod choosing;
 mod job;
+mod repeat;
 mod rows;
 
-use accounts::work_at_cabinet;
+use accounts::{at_cabinet, pay, post, read, settle};
 use anyhow::anyhow;
 use board::Board;
-use choosing::choose_often;
+use choosing::choose_for;
 use job::{BoardKind, Job, Work};
 use journal::JournalPlan;
-use rows::work_at_board;
+use repeat::{Turn, repeat};
+use rows::{load_rows, store_rows};
 use std::env;
-use std::time::Instant;
 use table::TablePlan;
 
 const USAGE: &str =
@@ -23,14 +24,15 @@ const USAGE: &str =
 // The work on a board of any kind.
 fn at_work<B: Board + Drop>(rt: &HostRuntime, board: B, job: &Job) -> anyhow::Result<u64> {
     match job.work {
-        Work::Load | Work::Store => work_at_board(rt, board, job),
-        Work::Choose => {
-            let start = Instant::now(rt)?;
-            let sum = choose_often(job.count);
-            job::report(rt, start)?;
-            Ok(sum)
-        }
-        Work::Post | Work::Read | Work::Settle | Work::Pay => work_at_cabinet(rt, board, job),
+        Work::Choose => repeat(rt, job.accounts, job.count, &mut (), |_, turn: Turn| {
+            choose_for(turn.done)
+        }),
+        Work::Load => load_rows(rt, board, job),
+        Work::Store => store_rows(rt, board, job),
+        Work::Post => at_cabinet(rt, board, job, post),
+        Work::Read => at_cabinet(rt, board, job, read),
+        Work::Settle => at_cabinet(rt, board, job, settle),
+        Work::Pay => at_cabinet(rt, board, job, pay),
     }
 }
 
@@ -40,17 +42,17 @@ fn work(rt: &HostRuntime, job: &Job) -> anyhow::Result<u64> {
     match job.board {
         BoardKind::Table => {
             let memory = vec![in heap; 0u8; job.table_length()]?;
-            match TablePlan::new(job.accounts, memory) {
-                Ok(plan) => at_work(rt, plan.make(), job),
-                Err(_) => Err(anyhow!("no such table board")),
-            }
+            let plan = TablePlan::new(job.accounts, memory).map_err(|_| anyhow!(
+                "no such table board"
+            ))?;
+            at_work(rt, plan.make(), job)
         }
         BoardKind::Journal => {
             let memory = vec![in heap; 0u8; job.journal_length()]?;
-            match JournalPlan::new(job.accounts, job.accounts, memory) {
-                Ok(plan) => at_work(rt, plan.make(), job),
-                Err(_) => Err(anyhow!("no such journal board")),
-            }
+            let plan = JournalPlan::new(job.accounts, job.accounts, memory).map_err(|_| anyhow!(
+                "no such journal board"
+            ))?;
+            at_work(rt, plan.make(), job)
         }
     }
 }

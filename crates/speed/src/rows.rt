@@ -1,7 +1,7 @@
 // Rows read from a board and stored on it.
-use crate::job::{Job, Work, report};
+use crate::job::Job;
+use crate::repeat::{Turn, repeat};
 use board::Board;
-use std::time::Instant;
 
 // The next number of a sequence that jumps about.
 fn jump(number: u64) -> u64 {
@@ -19,51 +19,53 @@ fn below(number: u64, count: u64) -> u64 {
     }
 }
 
-// Reads rows here and there, and sums one byte or another of each.
-fn load_often<B: Board>(board: &mut B, accounts: u64, count: u64) -> u64 {
-    let mut place = [0u8; 128];
-    let mut at = 1;
-    let mut sum = 0u64;
-    for _ in 0..count {
-        at = jump(at);
-        if board.read(below(at, accounts), &mut place).is_ok() {
-            sum = sum.wrapping_add(place[(at & 127) as usize] as u64);
-        }
-    }
-    sum
-}
-
-// Stores rows here and there, and counts them.
-fn store_often<B: Board>(board: &mut B, accounts: u64, count: u64) -> u64 {
-    let mut row = [7u8; 128];
-    let mut at = 1;
-    let mut sum = 0u64;
-    for i in 0..count {
-        at = jump(at);
-        row[0] = (i & 0xff) as u8;
-        if board.store(below(at, accounts), &row).is_ok() {
-            sum = sum.wrapping_add(1);
-        }
-    }
-    sum
-}
-
-// The work on a board on which every account has a row.
-pub fn work_at_board<B: Board + Drop>(
-    rt: &HostRuntime,
-    mut board: B,
-    job: &Job,
-) -> anyhow::Result<u64> {
-    for number in 0..job.accounts {
+// A board on which every account has a row.
+fn fill<B: Board>(board: &mut B, accounts: u64) {
+    for number in 0..accounts {
         let mut row = [9u8; 128];
         row[0] = (number & 0xff) as u8;
         let _ = board.store(number, &row);
     }
-    let start = Instant::now(rt)?;
-    let sum = match job.work {
-        Work::Load => load_often(&mut board, job.accounts, job.count),
-        _ => store_often(&mut board, job.accounts, job.count),
-    };
-    report(rt, start)?;
-    Ok(sum)
+}
+
+// Reads rows here and there, and sums one byte or another of each.
+pub fn load_rows<B: Board + Drop>(
+    rt: &HostRuntime,
+    mut board: B,
+    job: &Job,
+) -> anyhow::Result<u64> {
+    let accounts = job.accounts;
+    fill(&mut board, accounts);
+    let mut place = [0u8; 128];
+    let mut at = 1;
+    repeat(rt, accounts, job.count, &mut board, |board: &mut B, _| {
+        at = jump(at);
+        if board.read(below(at, accounts), &mut place).is_err() {
+            return 0;
+        }
+        place[(at & 127) as usize] as u64
+    })
+}
+
+// Stores rows here and there, and counts them.
+pub fn store_rows<B: Board + Drop>(
+    rt: &HostRuntime,
+    mut board: B,
+    job: &Job,
+) -> anyhow::Result<u64> {
+    let accounts = job.accounts;
+    fill(&mut board, accounts);
+    let mut at = 1;
+    repeat(
+        rt,
+        accounts,
+        job.count,
+        &mut board,
+        |board: &mut B, turn: Turn| {
+            at = jump(at);
+            let mut row = [7u8; 128];
+            row[0] = (turn.done & 0xff) as u8;
+            u64::from(board.store(below(at, accounts), &row).is_ok())
+        },
+    )
 }

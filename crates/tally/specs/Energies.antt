@@ -3,6 +3,7 @@ use Rattle.std.specs.Prelude.{ℕ, ◌+◌, ◌-◌, ◌*◌, ◌%◌, ◌^◌, 
 use Rattle.common.specs.Counts.{sum_to}
 use Rattle.account.specs.declared.hours.Hours.{Hours}
 use Rattle.account.specs.declared.hours.Hours.TheVariants.{Day, Night}
+use Rattle.cabinet.specs.declared.bill.Bill.{Bill}
 use Rattle.tally.specs.declared.energy.Energy.{Energy}
 
 -- the kWh of these hours
@@ -24,6 +25,10 @@ counted_from old new first = sum_to (counted_by old new first) 6
 -- what twelve registers counted between two readings
 abbrev pub counted_in : List ℕ → List ℕ → Energy
 counted_in old new = record { day = counted_from old new 0; night = counted_from old new 1 }
+
+-- the kWh that a bill is for
+abbrev pub billed_in : Bill → Energy
+billed_in b = record { day = b.day; night = b.night }
 
 -- a sum, as far as 64 bits go
 abbrev pub plus : ℕ → ℕ → ℕ

@@ -1,5 +1,5 @@
 -- Sums against what a cabinet shows.
-use Rattle.std.specs.Prelude.{◌≡◌, ◌+◌, true, false}
+use Rattle.std.specs.Prelude.{◌≡◌, ◌+◌, Some, None, Option, ⊤}
 use Rattle.account.specs.declared.hours.Hours.{Hours}
 use Rattle.account.specs.declared.hours.Hours.TheVariants.{Day, Night}
 use Rattle.account.specs.Tenancy.{Tenancy}
@@ -17,11 +17,13 @@ Metered h t a = energy_in h t.read ≡ energy_in h t.billed + waiting_in_all h a
 abbrev pub Agrees : Tally → Tenancy → Type 0
 Agrees t a = (a.balance ≡ owed t) × (a.next ≡ t.next) × Metered Day t a × Metered Night t a
 
--- a showing tells what the sums say
-abbrev pub ShownBy : Tally → Reply → Type 0
+-- a showing tells what the sums at its number say, none where it is vacant
+abbrev pub ShownBy : Option Tally → Reply → Type 0
 ShownBy t (posted month ne) = ⊥
 ShownBy t done = ⊥
 ShownBy t (billed b) = ⊥
-ShownBy t (shown a) = (t.occupied ≡ true) × Agrees t a
-ShownBy t vacant = t.occupied ≡ false
+ShownBy (Some t) (shown a) = Agrees t a
+ShownBy None (shown a) = ⊥
+ShownBy (Some t) vacant = ⊥
+ShownBy None vacant = ⊤
 ShownBy t (refusal r) = ⊥

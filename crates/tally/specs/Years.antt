@@ -6,11 +6,8 @@ use Rattle.run.specs.declared.answer.Answer.TheVariants.{Posted, Done, Billed, S
 use Rattle.run.specs.declared.call.Call.{Call}
 use Rattle.run.specs.declared.call.Call.TheVariants.{Post, Open, Read, Settle, Pay, Close, Show}
 use Rattle.tally.specs.declared.year.YearSums.{YearSums}
-use Rattle.tally.specs.Energies.{plus, joined, no_energy}
+use Rattle.tally.specs.Energies.{billed_in, plus, joined}
 use Rattle.tally.specs.Tallies.{is_done}
-
-abbrev pub no_sums : YearSums
-no_sums = record { calls = 0; refused = 0; bills = 0; energy = no_energy; charged = 0; paid = 0 }
 
 -- a bill more
 abbrev pub with_billed : Bill → YearSums → YearSums
@@ -18,7 +15,7 @@ with_billed b y = record {
   calls = y.calls;
   refused = y.refused;
   bills = plus y.bills 1;
-  energy = joined y.energy (record { day = b.day; night = b.night });
+  energy = joined y.energy (billed_in b);
   charged = plus y.charged b.cents;
   paid = y.paid;
 }

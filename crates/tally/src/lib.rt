@@ -7,5 +7,6 @@ mod tally;
 mod year;
 
 pub use energy::{Energy, counted};
-pub use tally::{Tally, number_of};
+pub use showing::is_shown;
+pub use tally::{Tally, after};
 pub use year::YearSums;

@@ -26,15 +26,15 @@ impl Tally {
         }
         self.is_metered(account, Hours::Day) && self.is_metered(account, Hours::Night)
     }
+}
 
-    // Whether a showing tells what these sums say: vacant, or an account that agrees with them.
-    pub fn is_shown_by(&self, answer: &Answer) -> bool
-        ensures { Decides result (ShownBy self.now (told answer.now)) }
-    {
-        match answer {
-            Answer::Shown(account) => self.occupied && self.agrees_with(account),
-            Answer::Vacant => !self.occupied,
-            _ => false,
-        }
+// Whether a showing tells what the sums at its number say: vacant, or an account that agrees with them.
+pub fn is_shown(tally: Option<Tally>, answer: &Answer) -> bool
+    ensures { Decides result (ShownBy tally (told answer.now)) }
+{
+    match (tally, answer) {
+        (Some(tally), Answer::Shown(account)) => tally.agrees_with(account),
+        (None, Answer::Vacant) => true,
+        _ => false,
     }
 }

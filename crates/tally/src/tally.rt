@@ -1,6 +1,6 @@
 // What the calls on one account add up to.
 ghost use Rattle.std.specs.Prelude.{◌≡◌};
-ghost use Rattle.tally.specs.Tallies.{nobody, opened_by, with_reading, with_bill, with_payment, is_done, owed, number_of, after};
+ghost use Rattle.tally.specs.Tallies.{opened_by, with_reading, with_bill, with_payment, owed, after};
 
 use crate::energy::{Energy, counted};
 use account::OpeningForm;
@@ -8,11 +8,10 @@ use cabinet::Bill;
 use facts::ProfileForm;
 use run::{Answer, Call};
 
-// A number's own sums since its last opening, or those of a vacant number, which are all 0.
+// An account's own sums since it was opened.
 #[derive(Clone, Copy)]
 pub struct Tally {
-    pub occupied: bool,
-    // a reading waits to be settled
+    // a reading waits to be settled; of an account's states, vacant is no tally
     pub ready: bool,
     pub profile: ProfileForm,
     // the month of the opening, and the first one that is not settled
@@ -27,117 +26,53 @@ pub struct Tally {
     pub paid: u64,
 }
 
-const NO_PROFILE: ProfileForm = ProfileForm {
-    class: 0,
-    marks: 0,
-    power: 0,
-    exempt: 0,
-    kinds: [0; 6],
-};
-
-const NO_ENERGY: Energy = Energy { day: 0, night: 0 };
-
-// The number that a call is on; a posting is on none.
-pub fn number_of<S>(call: &Call<S>) -> Option<u64>
-    ensures { result ≡ number_of call.now }
-{
-    match call {
-        Call::Post { .. } => None,
-        Call::Open { number, .. } => Some(*number),
-        Call::Read { number, .. } => Some(*number),
-        Call::Settle { number, .. } => Some(*number),
-        Call::Pay { number, .. } => Some(*number),
-        Call::Close { number } => Some(*number),
-        Call::Show { number } => Some(*number),
-    }
-}
-
-// Whether a call was answered by done.
-pub(crate) fn is_done(answer: &Answer) -> bool
-    ensures { result ≡ is_done answer.now }
-{
-    matches!(answer, Answer::Done)
-}
-
 impl Tally {
-    // No account.
-    pub fn vacant() -> Tally
-        ensures { result ≡ nobody }
-    {
-        Tally {
-            occupied: false,
-            ready: false,
-            profile: NO_PROFILE,
-            first: 0,
-            next: 0,
-            indices: [0; 12],
-            read: NO_ENERGY,
-            billed: NO_ENERGY,
-            charged: 0,
-            paid: 0,
-        }
-    }
-
     // An account that was just opened.
     fn opened(form: &OpeningForm) -> Tally
         ensures { result ≡ opened_by form.now }
     {
         Tally {
-            occupied: true,
             ready: false,
             profile: form.profile,
             first: form.first,
             next: form.first,
             indices: form.indices,
-            read: NO_ENERGY,
-            billed: NO_ENERGY,
+            read: Energy::default(),
+            billed: Energy::default(),
             charged: 0,
             paid: 0,
         }
     }
 
-    fn add_reading(&mut self, indices: &[u64; 12])
-        ensures { self.new ≡ with_reading indices.now self.old }
+    fn with_reading(self, indices: &[u64; 12]) -> Tally
+        ensures { result ≡ with_reading indices.now self }
     {
-        self.read = self.read.plus(counted(&self.indices, indices));
-        self.indices = *indices;
-        self.ready = true;
+        Tally {
+            read: self.read.plus(counted(&self.indices, indices)),
+            indices: *indices,
+            ready: true,
+            ..self
+        }
     }
 
-    fn add_bill(&mut self, end: u64, bill: Bill)
-        ensures { self.new ≡ with_bill end bill self.old }
+    fn with_bill(self, end: u64, bill: Bill) -> Tally
+        ensures { result ≡ with_bill end bill self }
     {
-        let energy = Energy {
-            day: bill.day(),
-            night: bill.night(),
-        };
-        self.billed = self.billed.plus(energy);
-        self.charged = self.charged.saturating_add(bill.cents());
-        self.next = end.saturating_add(1);
-        self.ready = false;
+        Tally {
+            billed: self.billed.plus(bill.into()),
+            charged: self.charged.saturating_add(bill.cents()),
+            next: end.saturating_add(1),
+            ready: false,
+            ..self
+        }
     }
 
-    fn add_payment(&mut self, cents: u64)
-        ensures { self.new ≡ with_payment cents self.old }
+    fn with_payment(self, cents: u64) -> Tally
+        ensures { result ≡ with_payment cents self }
     {
-        self.paid = self.paid.saturating_add(cents);
-    }
-
-    // Takes in a call on this number and what it was answered.
-    pub fn take<S>(&mut self, call: &Call<S>, answer: &Answer)
-        ensures { self.new ≡ after call.now answer.now self.old }
-    {
-        match call {
-            Call::Open { form, .. } if is_done(answer) => *self = Tally::opened(form),
-            Call::Read { indices, .. } if is_done(answer) => self.add_reading(indices),
-            Call::Settle { end, .. } => {
-                if let Answer::Billed(bill) = answer {
-                    self.add_bill(*end, *bill);
-                }
-            }
-            Call::Pay { cents, .. } if is_done(answer) => self.add_payment(*cents),
-            Call::Close { .. } if is_done(answer) => *self = Tally::vacant(),
-            _ => {}
+        Tally {
+            paid: self.paid.saturating_add(cents),
+            ..self
         }
     }
 
@@ -146,5 +81,19 @@ impl Tally {
         ensures { result ≡ owed self.now }
     {
         self.charged as i128 - self.paid as i128
+    }
+}
+
+// The sums at a number, none where it is vacant, after a call on it and what that was answered.
+pub fn after<S>(tally: Option<Tally>, call: &Call<S>, answer: &Answer) -> Option<Tally>
+    ensures { result ≡ after call.now answer.now tally }
+{
+    match (call, answer) {
+        (Call::Open { form, .. }, Answer::Done) => Some(Tally::opened(form)),
+        (Call::Read { indices, .. }, Answer::Done) => tally.map(|t| t.with_reading(indices)),
+        (Call::Settle { end, .. }, Answer::Billed(bill)) => tally.map(|t| t.with_bill(*end, *bill)),
+        (Call::Pay { cents, .. }, Answer::Done) => tally.map(|t| t.with_payment(*cents)),
+        (Call::Close { .. }, Answer::Done) => None,
+        _ => tally,
     }
 }

@@ -1,14 +1,13 @@
 // What the calls of a year add up to.
 ghost use Rattle.std.specs.Prelude.{◌≡◌};
-ghost use Rattle.tally.specs.Years.{no_sums, with_billed, answered, paid_in, year_after, years_joined};
+ghost use Rattle.tally.specs.Years.{with_billed, answered, paid_in, year_after, years_joined};
 
 use crate::energy::Energy;
-use crate::tally::is_done;
 use cabinet::Bill;
 use run::{Answer, Call};
 
 // Calls, those refused among them, bills with their kWh and cents, and the cents of payments.
-#[derive(Clone, Copy)]
+#[derive(Clone, Copy, PartialEq, Eq, Default, Debug)]
 pub struct YearSums {
     pub calls: u64,
     pub refused: u64,
@@ -22,35 +21,18 @@ pub struct YearSums {
 fn paid_in<S>(call: &Call<S>, answer: &Answer) -> u64
     ensures { result ≡ paid_in call.now answer.now }
 {
-    match call {
-        Call::Pay { cents, .. } if is_done(answer) => *cents,
+    match (call, answer) {
+        (Call::Pay { cents, .. }, Answer::Done) => *cents,
         _ => 0,
     }
 }
 
 impl YearSums {
-    pub fn new() -> YearSums
-        ensures { result ≡ no_sums }
-    {
-        YearSums {
-            calls: 0,
-            refused: 0,
-            bills: 0,
-            energy: Energy { day: 0, night: 0 },
-            charged: 0,
-            paid: 0,
-        }
-    }
-
     fn add_bill(&mut self, bill: Bill)
         ensures { self.new ≡ with_billed bill self.old }
     {
-        let energy = Energy {
-            day: bill.day(),
-            night: bill.night(),
-        };
         self.bills = self.bills.saturating_add(1);
-        self.energy = self.energy.plus(energy);
+        self.energy = self.energy.plus(bill.into());
         self.charged = self.charged.saturating_add(bill.cents());
     }
 
@@ -74,7 +56,7 @@ impl YearSums {
         self.paid = self.paid.saturating_add(paid_in(call, answer));
     }
 
-    // The sums of two spans of time together.
+    // The sums of two spans of time together, as far as 64 bits go; no `+` for the same reason as of Energy.
     pub fn plus(self, more: YearSums) -> YearSums
         ensures { result ≡ years_joined self more }
     {

@@ -11,6 +11,10 @@ use Rattle.tenants.specs.Visits.{lot_of, tenant_of, leaves}
 abbrev pub payer_at : ℕ → Payer
 payer_at n = cond (n == 0) AtOnce (cond (n == 1) ByHalves InAdvance)
 
+-- how the tenant of an account pays
+abbrev pub payer_of : Visit → Tally → Payer
+payer_of v t = payer_at (drawn_below (tenant_of v t.first) 4 3)
+
 -- the cents that are owed
 abbrev pub owes : Tally → ℕ
 owes t = t.charged - t.paid
@@ -27,4 +31,4 @@ paid_by InAdvance v t = plus (owes t) (advance v t)
 
 -- who leaves pays all that is owed; one payment is at most 10^9
 abbrev pub amount_of : Visit → Tally → ℕ
-amount_of v t = min (cond (leaves v) (owes t) (paid_by (payer_at (drawn_below (tenant_of v t.first) 4 3)) v t)) 1000000000
+amount_of v t = min (cond (leaves v) (owes t) (paid_by (payer_of v t) v t)) 1000000000

@@ -1,5 +1,5 @@
 -- Calls that a careless office makes, each of which is refused whatever stands at its number.
-use Rattle.std.specs.Prelude.{ℕ, ◌+◌, ◌-◌, ◌%◌, ◌^◌, cond, not, ◌&&◌, List, replicate, Some, None, Option, ◌==◌, nat_lt, slice_index, slice_set}
+use Rattle.std.specs.Prelude.{ℕ, ◌+◌, ◌-◌, ◌%◌, ◌^◌, Bool, false, cond, not, ◌&&◌, List, replicate, Some, None, Option, ◌==◌, nat_lt, slice_index, slice_set}
 use Rattle.account.specs.declared.event.OpeningForm.{OpeningForm}
 use Rattle.chance.specs.Drawn.{drawn, drawn_below}
 use Rattle.run.specs.declared.call.Call.{Call}
@@ -13,7 +13,7 @@ use Rattle.tenants.specs.declared.slips.Slip.TheVariants.{SettlesAgain, SettlesT
 use Rattle.tenants.specs.declared.household.Household.TheVariants.{Flat}
 use Rattle.tenants.specs.declared.visit.Visit.{Visit}
 use Rattle.tenants.specs.Households.{agreed, profile_of}
-use Rattle.tenants.specs.Visits.{lot_of}
+use Rattle.tenants.specs.Visits.{lot_of, indices_of, next_of}
 
 abbrev pub slip_at : ℕ → Slip
 slip_at n =
@@ -34,28 +34,37 @@ powerless month = record {
   indices = replicate 12 0;
 }
 
+-- a reading waits at a number; where it is vacant none does
+abbrev pub is_ready : Option Tally → Bool
+is_ready None = false
+is_ready (Some t) = t.ready
+
+-- an account with nothing left to settle or to pay
+abbrev pub is_settled : Option Tally → Bool
+is_settled None = false
+is_settled (Some t) = not t.ready && t.charged == t.paid
+
 -- a settlement where no reading waits, else up to the month that is not posted yet
-abbrev pub settled_again : Visit → Tally → Call SheetName
-settled_again v t = Settle v.number (cond t.ready (plus v.month 1) v.month) Decree
+abbrev pub settled_again : Visit → Call SheetName
+settled_again v = Settle v.number (cond (is_ready v.tally) (plus v.month 1) v.month) Decree
 
 -- a closing where something is left to settle or to pay, else a showing outside
-abbrev pub closed_unsettled : Visit → Tally → Call SheetName
-closed_unsettled v t =
-    cond (t.occupied && not t.ready && t.charged == t.paid) (Show (2 ^ 64 - 1)) (Close v.number)
+abbrev pub closed_unsettled : Visit → Call SheetName
+closed_unsettled v = cond (is_settled v.tally) (Show (2 ^ 64 - 1)) (Close v.number)
 
-abbrev pub slip_call : Slip → Visit → Tally → Call SheetName
-slip_call SettlesAgain v t = settled_again v t
-slip_call SettlesThePast v t = Settle v.number ((t.next + (2 ^ 64 - 1)) % 2 ^ 64) Decree
-slip_call ReadsBackwards v t = Read v.number (backwards t.indices)
-slip_call ReadsTooHigh v t = Read v.number (too_high t.indices)
-slip_call PaysNothing v t = Pay v.number 0
-slip_call PaysTooMuch v t = Pay v.number 1000000001
-slip_call OpensAgain v t = Open v.number (powerless v.month)
-slip_call ClosesUnsettled v t = closed_unsettled v t
-slip_call ShowsOutside v t = Show (2 ^ 64 - 1)
-slip_call PostsNothing v t = Post 0 141151 10000
+abbrev pub slip_call : Slip → Visit → Call SheetName
+slip_call SettlesAgain v = settled_again v
+slip_call SettlesThePast v = Settle v.number ((next_of v + (2 ^ 64 - 1)) % 2 ^ 64) Decree
+slip_call ReadsBackwards v = Read v.number (backwards (indices_of v))
+slip_call ReadsTooHigh v = Read v.number (too_high (indices_of v))
+slip_call PaysNothing v = Pay v.number 0
+slip_call PaysTooMuch v = Pay v.number 1000000001
+slip_call OpensAgain v = Open v.number (powerless v.month)
+slip_call ClosesUnsettled v = closed_unsettled v
+slip_call ShowsOutside v = Show (2 ^ 64 - 1)
+slip_call PostsNothing v = Post 0 141151 10000
 
 -- one time out of ten, in a turn of the month
-abbrev pub slip_of : Visit → Tally → ℕ → Option (Call SheetName)
-slip_of v t turn =
-    cond (nat_lt 0 (drawn_below (drawn (lot_of v) turn) 0 10)) None (Some (slip_call (slip_at (drawn_below (drawn (lot_of v) turn) 1 10)) v t))
+abbrev pub slip_of : Visit → ℕ → Option (Call SheetName)
+slip_of v turn =
+    cond (nat_lt 0 (drawn_below (drawn (lot_of v) turn) 0 10)) None (Some (slip_call (slip_at (drawn_below (drawn (lot_of v) turn) 1 10)) v))

@@ -1,6 +1,7 @@
 -- A dwelling in a month, and the lots that are drawn for it.
-use Rattle.std.specs.Prelude.{ℕ, Bool, ◌==◌, nat_lt}
+use Rattle.std.specs.Prelude.{ℕ, Bool, Some, None, Option, List, replicate, ◌==◌, nat_lt}
 use Rattle.chance.specs.Drawn.{drawn, drawn_below}
+use Rattle.tally.specs.declared.tally.Tally.{Tally}
 use Rattle.tenants.specs.declared.household.Household.{Household}
 use Rattle.tenants.specs.declared.visit.Visit.{Visit}
 use Rattle.tenants.specs.Households.{household_at}
@@ -23,3 +24,18 @@ moves_in v = nat_lt 0 (drawn_below (lot_of v) 1 3)
 -- a tenant leaves in one month out of forty
 abbrev pub leaves : Visit → Bool
 leaves v = drawn_below (lot_of v) 2 40 == 0
+
+-- the indices read last, and the first month that is not settled; all 0 where nobody lives
+abbrev pub indices_by : Option Tally → List ℕ
+indices_by None = replicate 12 0
+indices_by (Some t) = t.indices
+
+abbrev pub indices_of : Visit → List ℕ
+indices_of v = indices_by v.tally
+
+abbrev pub next_by : Option Tally → ℕ
+next_by None = 0
+next_by (Some t) = t.next
+
+abbrev pub next_of : Visit → ℕ
+next_of v = next_by v.tally

@@ -1,10 +1,10 @@
 // Kinds of households.
 ghost use Rattle.std.specs.Prelude.{◌≡◌};
-ghost use Rattle.tenants.specs.Households.{household_at, profile_of, monthly_of, billed_after};
+ghost use Rattle.tenants.specs.Households.{profile_of, monthly_of, billed_after};
 
 use facts::ProfileForm;
 
-#[derive(Clone, Copy)]
+#[derive(Clone, Copy, PartialEq, Eq, Debug)]
 pub enum Household {
     Flat,
     // a house with a boiler on a night-reserved circuit
@@ -22,23 +22,19 @@ pub enum Household {
     Workshop,
 }
 
-impl Household {
-    // The household of a number below eight.
-    pub fn from_number(number: u64) -> Household
-        ensures { result ≡ household_at number }
-    {
-        match number {
-            0 => Household::Flat,
-            1 => Household::House,
-            2 => Household::HeatedHouse,
-            3 => Household::ProtectedFlat,
-            4 => Household::ProtectedFamily,
-            5 => Household::Villa,
-            6 => Household::Shop,
-            _ => Household::Workshop,
-        }
-    }
+// All households, from which a tenant's is drawn.
+pub(crate) const HOUSEHOLDS: [Household; 8] = [
+    Household::Flat,
+    Household::House,
+    Household::HeatedHouse,
+    Household::ProtectedFlat,
+    Household::ProtectedFamily,
+    Household::Villa,
+    Household::Shop,
+    Household::Workshop,
+];
 
+impl Household {
     // What is agreed with it.
     pub fn profile(self) -> ProfileForm
         ensures { result ≡ profile_of self }

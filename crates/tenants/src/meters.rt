@@ -3,6 +3,7 @@ ghost use Rattle.std.specs.Prelude.{◌≡◌, ◌<◌, ◌≤◌};
 ghost use Rattle.tenants.specs.Meters.{used_in, start_at, index_at, start_indices, indices_after};
 
 use chance::Chance;
+use std::array;
 
 // The number of indices that a register can show.
 const INDICES: u64 = 1_000_000;
@@ -31,11 +32,7 @@ fn start_at(kinds: &[u64; 6], lot: Chance, register: usize) -> u64
 pub fn start_indices(kinds: &[u64; 6], lot: Chance) -> [u64; 12]
     ensures { result ≡ start_indices kinds.now lot.seed }
 {
-    let mut indices = [0; 12];
-    for i in 0..12usize {
-        indices[i] = start_at(kinds, lot, i);
-    }
-    indices
+    array::from_fn(|register| start_at(kinds, lot, register))
 }
 
 // The index of a register after some months, in which three quarters to five quarters of the usual kWh are used.
@@ -52,9 +49,5 @@ pub fn indices_after(old: &[u64; 12], monthly: &[u16; 12], months: u64, lot: Cha
     requires { months ≤ 3 }
     ensures { result ≡ indices_after old.now monthly.now months lot.seed }
 {
-    let mut indices = [0; 12];
-    for i in 0..12usize {
-        indices[i] = index_at(old[i], monthly[i], months, lot, i);
-    }
-    indices
+    array::from_fn(|i| index_at(old[i], monthly[i], months, lot, i))
 }

@@ -1,6 +1,6 @@
 // The rounds that an office makes through the dwellings of an estate each month.
 ghost use Rattle.std.specs.Prelude.{◌≡◌};
-ghost use Rattle.tenants.specs.Rounds.{sheet_at, opening_of, reads_now, settles_now, moving_in, reading, settling, paying, moving_out, is_slip, call_in};
+ghost use Rattle.tenants.specs.Rounds.{sheet_of, opening_of, settles_now, moving_in, reading, settling, paying, moving_out, is_slip, call_in};
 
 use crate::meters::{indices_after, start_indices};
 use crate::payments::amount;
@@ -11,7 +11,7 @@ use lineforms::SheetName;
 use run::Call;
 use tally::Tally;
 
-#[derive(Clone, Copy)]
+#[derive(Clone, Copy, PartialEq, Eq, Debug)]
 pub enum Round {
     MovingIn,
     Reading,
@@ -23,21 +23,17 @@ pub enum Round {
     Slipping(u64),
 }
 
-// The sheet of a number below four.
-fn sheet_from(number: u64) -> SheetName
-    ensures { result ≡ sheet_at number }
-{
-    match number {
-        0 => SheetName::Decree,
-        1 => SheetName::House,
-        2 => SheetName::ProtectedDecree,
-        _ => SheetName::ProtectedHouse,
-    }
-}
+// All sheets, from which that of a settlement is drawn.
+const SHEETS: [SheetName; 4] = [
+    SheetName::Decree,
+    SheetName::House,
+    SheetName::ProtectedDecree,
+    SheetName::ProtectedHouse,
+];
 
 // How the account of a new tenant is opened.
-fn opening(visit: Visit) -> OpeningForm
-    ensures { result ≡ opening_of visit }
+fn opening(visit: &Visit) -> OpeningForm
+    ensures { result ≡ opening_of visit.now }
 {
     let profile = visit.household(visit.month).profile();
     OpeningForm {
@@ -48,10 +44,10 @@ fn opening(visit: Visit) -> OpeningForm
 }
 
 // An empty dwelling finds a tenant.
-fn moving_in(visit: Visit, tally: &Tally) -> Option<Call<SheetName>>
-    ensures { result ≡ moving_in visit tally.now }
+fn moving_in(visit: &Visit) -> Option<Call<SheetName>>
+    ensures { result ≡ moving_in visit.now }
 {
-    if tally.occupied || !visit.moves_in() {
+    if visit.tally.is_some() || !visit.moves_in() {
         return None;
     }
     Some(Call::Open {
@@ -60,21 +56,15 @@ fn moving_in(visit: Visit, tally: &Tally) -> Option<Call<SheetName>>
     })
 }
 
-// Whether the dwelling is read this month: every third one, and when the tenant leaves.
-fn reads_now(visit: Visit, tally: &Tally) -> bool
-    ensures { result ≡ reads_now visit tally.now }
+// The kWh since the last reading are read, every third month and when the tenant leaves.
+fn reading_call(visit: &Visit) -> Option<Call<SheetName>>
+    ensures { result ≡ reading visit.now }
 {
-    tally.occupied && (visit.month.saturating_sub(tally.first) % 3 == 2 || visit.leaves())
-}
-
-// The kWh since the last reading are read.
-fn reading_call(visit: Visit, tally: &Tally) -> Option<Call<SheetName>>
-    ensures { result ≡ reading visit tally.now }
-{
-    if !reads_now(visit, tally) {
+    let tally = visit.tally?;
+    let months = visit.month.saturating_sub(tally.first) % 3 + 1;
+    if months < 3 && !visit.leaves() {
         return None;
     }
-    let months = visit.month.saturating_sub(tally.first) % 3 + 1;
     let monthly = visit.household(tally.first).monthly();
     Some(Call::Read {
         number: visit.number,
@@ -83,32 +73,40 @@ fn reading_call(visit: Visit, tally: &Tally) -> Option<Call<SheetName>>
 }
 
 // Whether what was read is billed this month.
-fn settles_now(visit: Visit, tally: &Tally) -> bool
-    ensures { result ≡ settles_now visit tally.now }
+fn settles_now(visit: &Visit, tally: &Tally) -> bool
+    ensures { result ≡ settles_now visit.now tally.now }
 {
     let least = visit.household(tally.first).billed_after();
     tally.ready && (visit.month.saturating_sub(tally.next) >= least || visit.leaves())
 }
 
-// The months up to this one are billed, on a sheet drawn by lot.
-fn settling_call(visit: Visit, tally: &Tally) -> Option<Call<SheetName>>
-    ensures { result ≡ settling visit tally.now }
+// The sheet of a settlement.
+fn sheet_of(visit: &Visit) -> SheetName
+    ensures { result ≡ sheet_of visit.now }
 {
-    if !settles_now(visit, tally) {
+    visit.lot().pick(5, &SHEETS)
+}
+
+// The months up to this one are billed, on a sheet drawn by lot.
+fn settling_call(visit: &Visit) -> Option<Call<SheetName>>
+    ensures { result ≡ settling visit.now }
+{
+    let tally = visit.tally?;
+    if !settles_now(visit, &tally) {
         return None;
     }
     Some(Call::Settle {
         number: visit.number,
         end: visit.month,
-        sheet: sheet_from(visit.lot().below(5, 4)),
+        sheet: sheet_of(visit),
     })
 }
 
-fn paying_call(visit: Visit, tally: &Tally) -> Option<Call<SheetName>>
-    ensures { result ≡ paying visit tally.now }
+fn paying_call(visit: &Visit) -> Option<Call<SheetName>>
+    ensures { result ≡ paying visit.now }
 {
-    let cents = amount(visit, tally);
-    if !tally.occupied || cents == 0 {
+    let cents = amount(visit, &visit.tally?);
+    if cents == 0 {
         return None;
     }
     Some(Call::Pay {
@@ -118,10 +116,11 @@ fn paying_call(visit: Visit, tally: &Tally) -> Option<Call<SheetName>>
 }
 
 // A tenant who leaves and owes nothing closes the account; one in credit stays until it is used up.
-fn moving_out(visit: Visit, tally: &Tally) -> Option<Call<SheetName>>
-    ensures { result ≡ moving_out visit tally.now }
+fn moving_out(visit: &Visit) -> Option<Call<SheetName>>
+    ensures { result ≡ moving_out visit.now }
 {
-    if !tally.occupied || tally.ready || tally.charged != tally.paid || !visit.leaves() {
+    let tally = visit.tally?;
+    if tally.ready || tally.charged != tally.paid || !visit.leaves() {
         return None;
     }
     Some(Call::Close {
@@ -137,20 +136,20 @@ impl Round {
         matches!(self, Round::Slipping(_))
     }
 
-    // The call that this round makes at a dwelling, by what its calls so far added up to.
-    pub fn call(self, visit: Visit, tally: &Tally) -> Option<Call<SheetName>>
-        ensures { result ≡ call_in self visit tally.now }
+    // The call that this round makes at a dwelling, by what the calls on its account added up to.
+    pub fn call(self, visit: &Visit) -> Option<Call<SheetName>>
+        ensures { result ≡ call_in self visit.now }
     {
         match self {
-            Round::MovingIn => moving_in(visit, tally),
-            Round::Reading => reading_call(visit, tally),
-            Round::Settling => settling_call(visit, tally),
-            Round::Paying => paying_call(visit, tally),
-            Round::MovingOut => moving_out(visit, tally),
+            Round::MovingIn => moving_in(visit),
+            Round::Reading => reading_call(visit),
+            Round::Settling => settling_call(visit),
+            Round::Paying => paying_call(visit),
+            Round::MovingOut => moving_out(visit),
             Round::Showing => Some(Call::Show {
                 number: visit.number,
             }),
-            Round::Slipping(turn) => slip_in(visit, tally, turn),
+            Round::Slipping(turn) => slip_in(visit, turn),
         }
     }
 }

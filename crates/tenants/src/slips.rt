@@ -1,14 +1,15 @@
 // Calls that a careless office makes, each of which is refused whatever stands at its number.
 ghost use Rattle.std.specs.Prelude.{◌≡◌};
+ghost use Rattle.chance.specs.Drawn.{drawn_below};
 ghost use Rattle.tenants.specs.Slips.{slip_at, backwards, too_high, powerless, settled_again, closed_unsettled, slip_call, slip_of};
 
 use crate::household::Household;
 use crate::visit::Visit;
 use account::OpeningForm;
+use chance::Chance;
 use facts::ProfileForm;
 use lineforms::SheetName;
 use run::Call;
-use tally::Tally;
 
 #[derive(Clone, Copy)]
 enum Slip {
@@ -32,25 +33,19 @@ enum Slip {
     PostsNothing,
 }
 
-impl Slip {
-    // The slip of a number below ten.
-    fn from_number(number: u64) -> Slip
-        ensures { result ≡ slip_at number }
-    {
-        match number {
-            0 => Slip::SettlesAgain,
-            1 => Slip::SettlesThePast,
-            2 => Slip::ReadsBackwards,
-            3 => Slip::ReadsTooHigh,
-            4 => Slip::PaysNothing,
-            5 => Slip::PaysTooMuch,
-            6 => Slip::OpensAgain,
-            7 => Slip::ClosesUnsettled,
-            8 => Slip::ShowsOutside,
-            _ => Slip::PostsNothing,
-        }
-    }
-}
+// All slips, from which that of a dwelling is drawn.
+const SLIPS: [Slip; 10] = [
+    Slip::SettlesAgain,
+    Slip::SettlesThePast,
+    Slip::ReadsBackwards,
+    Slip::ReadsTooHigh,
+    Slip::PaysNothing,
+    Slip::PaysTooMuch,
+    Slip::OpensAgain,
+    Slip::ClosesUnsettled,
+    Slip::ShowsOutside,
+    Slip::PostsNothing,
+];
 
 // The last indices, but one lower on the first register.
 fn backwards_from(indices: &[u64; 12]) -> [u64; 12]
@@ -74,20 +69,10 @@ fn too_high_from(indices: &[u64; 12]) -> [u64; 12]
 fn without_power(month: u64) -> OpeningForm
     ensures { result ≡ powerless month }
 {
-    let ProfileForm {
-        class,
-        marks,
-        exempt,
-        kinds,
-        ..
-    } = Household::Flat.profile();
     OpeningForm {
         profile: ProfileForm {
-            class,
-            marks,
             power: 0,
-            exempt,
-            kinds,
+            ..Household::Flat.profile()
         },
         first: month,
         indices: [0; 12],
@@ -95,13 +80,12 @@ fn without_power(month: u64) -> OpeningForm
 }
 
 // A settlement where no reading waits; where one does, up to the month that is not posted yet.
-fn settled_again(visit: Visit, tally: &Tally) -> Call<SheetName>
-    ensures { result ≡ settled_again visit tally.now }
+fn settled_again(visit: &Visit) -> Call<SheetName>
+    ensures { result ≡ settled_again visit.now }
 {
-    let end = if tally.ready {
-        visit.month.saturating_add(1)
-    } else {
-        visit.month
+    let end = match visit.tally {
+        Some(tally) if tally.ready => visit.month.saturating_add(1),
+        _ => visit.month,
     };
     Call::Settle {
         number: visit.number,
@@ -111,36 +95,38 @@ fn settled_again(visit: Visit, tally: &Tally) -> Call<SheetName>
 }
 
 // A closing where something is left to settle or to pay; where nothing is, a showing outside.
-fn closed_unsettled(visit: Visit, tally: &Tally) -> Call<SheetName>
-    ensures { result ≡ closed_unsettled visit tally.now }
+fn closed_unsettled(visit: &Visit) -> Call<SheetName>
+    ensures { result ≡ closed_unsettled visit.now }
 {
-    if tally.occupied && !tally.ready && tally.charged == tally.paid {
-        return Call::Show { number: u64::MAX };
-    }
-    Call::Close {
-        number: visit.number,
+    match visit.tally {
+        Some(tally) if !tally.ready && tally.charged == tally.paid => {
+            Call::Show { number: u64::MAX }
+        }
+        _ => Call::Close {
+            number: visit.number,
+        },
     }
 }
 
 // The call of a slip.
-fn slip_call(slip: Slip, visit: Visit, tally: &Tally) -> Call<SheetName>
-    ensures { result ≡ slip_call slip visit tally.now }
+fn slip_call(slip: Slip, visit: &Visit) -> Call<SheetName>
+    ensures { result ≡ slip_call slip visit.now }
 {
     let number = visit.number;
     match slip {
-        Slip::SettlesAgain => settled_again(visit, tally),
+        Slip::SettlesAgain => settled_again(visit),
         Slip::SettlesThePast => Call::Settle {
             number,
-            end: tally.next.wrapping_sub(1),
+            end: visit.next().wrapping_sub(1),
             sheet: SheetName::Decree,
         },
         Slip::ReadsBackwards => Call::Read {
             number,
-            indices: backwards_from(&tally.indices),
+            indices: backwards_from(&visit.indices()),
         },
         Slip::ReadsTooHigh => Call::Read {
             number,
-            indices: too_high_from(&tally.indices),
+            indices: too_high_from(&visit.indices()),
         },
         Slip::PaysNothing => Call::Pay { number, cents: 0 },
         Slip::PaysTooMuch => Call::Pay {
@@ -151,7 +137,7 @@ fn slip_call(slip: Slip, visit: Visit, tally: &Tally) -> Call<SheetName>
             number,
             form: without_power(visit.month),
         },
-        Slip::ClosesUnsettled => closed_unsettled(visit, tally),
+        Slip::ClosesUnsettled => closed_unsettled(visit),
         Slip::ShowsOutside => Call::Show { number: u64::MAX },
         Slip::PostsNothing => Call::Post {
             s: 0,
@@ -161,13 +147,20 @@ fn slip_call(slip: Slip, visit: Visit, tally: &Tally) -> Call<SheetName>
     }
 }
 
+// The slip that a lot falls on.
+fn slip_from(lot: Chance) -> Slip
+    ensures { result ≡ slip_at (drawn_below lot.seed 1 10) }
+{
+    lot.pick(1, &SLIPS)
+}
+
 // The slip at a dwelling in one of the month's turns, one time out of ten.
-pub fn slip_in(visit: Visit, tally: &Tally, turn: u64) -> Option<Call<SheetName>>
-    ensures { result ≡ slip_of visit tally.now turn }
+pub fn slip_in(visit: &Visit, turn: u64) -> Option<Call<SheetName>>
+    ensures { result ≡ slip_of visit.now turn }
 {
     let lot = visit.lot().at(turn);
     if lot.below(0, 10) > 0 {
         return None;
     }
-    Some(slip_call(Slip::from_number(lot.below(1, 10)), visit, tally))
+    Some(slip_call(slip_from(lot), visit))
 }

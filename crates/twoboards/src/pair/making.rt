@@ -8,19 +8,14 @@ ghost use Rattle.twoboards.specs.declared.pair.making.NoPair.TheVariants.{Memory
 ghost use Rattle.twoboards.specs.Pairs.{journal_length, table_books, SameBooks};
 
 use super::Pair;
+use board::MOST_NUMBERS;
 use cabinet::Cabinet;
-use journal::{Journal, JournalPlan};
+use journal::{ENTRY, Journal, JournalPlan};
 use std::alloc::{AllocError, Global};
-use table::{Table, TablePlan};
+use table::{SLOT, Table, TablePlan};
 
-// The bytes of a table's slot and of a journal's entry.
-const SLOT: u64 = 129;
-
-const ENTRY: u64 = 131;
 // The entries of the journal beyond one for each number.
 const SPARE: u64 = 8;
-// The most numbers of a board.
-const MOST: u64 = 4_096;
 
 // Why there is no pair.
 #[derive(Clone, Copy)]
@@ -39,22 +34,22 @@ impl From<AllocError> for NoPair {
 }
 
 // A table board of so many numbers.
+// Beside the journal's making, since each has a length and a check of its own.
 fn new_table(heap: Global, dwellings: u64) -> Result<Table, NoPair>
     requires { dwellings ≤ 4096 }
     ensures { IfOk result (λ t. table_meaning t ≡ empty dwellings dwellings) }
 {
-    let memory = vec![in heap; 0u8; (SLOT * dwellings) as usize]?;
-    match TablePlan::new(dwellings, memory) {
-        Ok(plan) => Ok(plan.make()),
-        Err(_) => Err(NoPair::Figures),
-    }
+    let memory = vec![in heap; 0u8; SLOT * dwellings as usize]?;
+    TablePlan::new(dwellings, memory)
+        .map(|plan| plan.make())
+        .map_err(|_| NoPair::Figures)
 }
 
 // The bytes of the journal of so many numbers, at most 4,096: an entry for each, and a few to spare.
 pub fn journal_length(numbers: u64) -> u64
     ensures { result ≡ journal_length numbers }
 {
-    ENTRY * (numbers.min(MOST) + SPARE)
+    ENTRY as u64 * (numbers.min(MOST_NUMBERS as u64) + SPARE)
 }
 
 // A journal board of so many numbers, each of which may have a row, and a few entries to spare.
@@ -63,10 +58,9 @@ fn new_journal(heap: Global, dwellings: u64) -> Result<Journal, NoPair>
     ensures { IfOk result (λ j. journal_meaning j ≡ empty dwellings dwellings) }
 {
     let memory = vec![in heap; 0u8; journal_length(dwellings) as usize]?;
-    match JournalPlan::new(dwellings, dwellings, memory) {
-        Ok(plan) => Ok(plan.make()),
-        Err(_) => Err(NoPair::Figures),
-    }
+    JournalPlan::new(dwellings, dwellings, memory)
+        .map(|plan| plan.make())
+        .map_err(|_| NoPair::Figures)
 }
 
 impl Pair {
@@ -74,7 +68,7 @@ impl Pair {
     pub fn new(heap: Global, dwellings: u64) -> Result<Pair, NoPair>
         ensures { IfOk result (λ p. (table_books p ≡ books_with [] (empty dwellings dwellings)) × SameBooks p) }
     {
-        if dwellings > MOST {
+        if dwellings > MOST_NUMBERS as u64 {
             return Err(NoPair::Figures);
         }
         let table = Cabinet::new(heap, new_table(heap, dwellings)?)?;

@@ -1,9 +1,15 @@
-use Rattle.std.proofs.Common.{arith}
-use Rattle.common.proofs.Counted.{sum_to-more}
-use Rattle.tally.specs.Energies.{counted_by}
+use Rattle.std.proofs.Common.{◌≡◌, ◌<◌, ◌^◌, sum, ap, arith, rules}
+use Rattle.std.proofs.lemmas.Grind.{common_steps}
 use Rattle.tally.proofs.energy.counted_from.Goals as goal
 
-pub loop-i-preserved : goal.loop-i-preserved
-loop-i-preserved c =
-    let n = sum_to-more (counted_by c.args.old.now c.args.new.now c.args.first) c.loop-i.i in
-    (omega arith, omega arith)
+pub sum-requires-clause-fits : goal.sum-requires-clause-fits
+sum-requires-clause-fits c =
+    let s = ap sum c.counted_on.ensures in
+    let b : sum c.counted_on.result < 2 ^ 64 = omega (arith, s) in
+    grind (arith, common_steps)
+
+pub returns : goal.returns
+returns c =
+    let s = ap sum c.counted_on.ensures in
+    let t : c.sum.result ≡ sum c.counted_on.result = search rules in
+    omega arith
