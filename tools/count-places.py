@@ -30,14 +30,19 @@ def without_notes(text):
 code = {f: without_notes(t) for f, t in texts.items()}
 
 
-def lines(pattern, inside=None):
+def lines(pattern):
     """Each line that the pattern finds."""
     for f, text in code.items():
-        if inside and not re.search(inside, f):
-            continue
         for n, line in enumerate(text.split("\n"), 1):
             if re.search(pattern, line):
                 yield f, n, line.strip()
+
+
+def passages(pattern):
+    """Each passage that the pattern finds, of several lines perhaps."""
+    for f, text in code.items():
+        for m in re.finditer(pattern, text):
+            yield f, text[: m.start()].count("\n") + 1, re.sub(r"\s+", " ", m.group(0))
 
 
 def blocks(head):
@@ -95,9 +100,7 @@ def point_1():
         if re.fullmatch(r"\s*0\s*", body) and "-> u8" in head:
             yield f, n, name
     yield from lines(r"fn (from_number|number|refusal|status)\b|\b(state|status): u64|struct \w+\(pub u64\)|fn row_status")
-    for f, text in code.items():
-        for m in re.finditer(r"else \{\s*return (None|Err\()|Some\((\w+)\) => Some\(|None => None,|Ok\((\w+)\) => Ok\(\3\)|Err\(_?\w*\) => (Err\(|return|None)", text):
-            yield f, text[: m.start()].count("\n") + 1, re.sub(r"\s+", " ", m.group(0))
+    yield from passages(r"else \{\s*return (None|Err\()|Some\((\w+)\) => Some\(|None => None,|Ok\((\w+)\) => Ok\(\3\)|Err\(_?\w*\) => (Err\(|return|None)")
 
 
 def point_2():
@@ -165,15 +168,13 @@ def point_6():
         if arrays and (len(arrays) > 1 or re.search(r": (usize|u64),", body)):
             yield f, n, head
     yield from lines(r"\[2 \* \w+( \+ \w+)?\]|\w+\[\w+ \+ \d+\]")
-    for f, text in code.items():
-        for m in re.finditer(r"for [^\n]* in [^\n]*\{\s*if [^\n]*\{\s*return ", text):
-            yield f, text[: m.start()].count("\n") + 1, re.sub(r"\s+", " ", m.group(0))
+    yield from passages(r"for [^\n]* in [^\n]*\{\s*if [^\n]*\{\s*return ")
 
 
 def point_7():
     for f, n, head, body in blocks(r"^ *(?:let [^=\n]*= |return )?match [^\n]*\{$"):
         arms = re.findall(r"=> (?:Some\(|Ok\()?((?:[a-z]\w*(?:::<\w+>)?[.:]*)+)\(", body)
-        if len(arms) >= 2 and len(set(arms)) >= 1:
+        if len(arms) >= 2:
             yield f, n, head + " " + ", ".join(arms)
 
 
