@@ -1,5 +1,6 @@
 -- What a write of one block leaves.
 use Rattle.std.proofs.Common.{◌≡◌, ℕ, ◌+◌, ◌-◌, ◌*◌, ◌<◌, ◌≤◌, List, ◌++◌, map, length, get_or, take, drop, Vec, sym, ap, ◌∙◌, ⊎_elim, mul-le-mul_left, mul-one, mul-add, arith}
+use lib.Seq.{paste}
 use borrow.Rule.Slice.PartMut.{put_mid}
 use Rattle.std.specs.List.{range_with_len}
 use Rattle.std.specs.Vec.{with_items}
@@ -7,7 +8,7 @@ use Rattle.std.specs.declared.alloc.Global.{Global}
 use Rattle.std.proofs.lemmas.List.{with_items_is, drop-drop, same_lists, get_or-take, get_or-drop, get_or_append_left, get_or-append_right, length-take-le, length-take, length-drop, length-append, take_at, drop_at, append_assoc}
 use Rattle.std.proofs.lemmas.List.FromFn.{length-map-range_with_len, get_or-map-range_with_len}
 use Rattle.std.proofs.lemmas.Bool.{cases_lt}
-use Rattle.blocks.specs.Blocks.{with_bytes, block, with_block}
+use Rattle.blocks.specs.Blocks.{bytes_at, with_bytes, block, with_block}
 
 -- a later block begins behind an earlier one
 pub apart : (w i j : ℕ) → i < j → w * i + w ≤ w * j
@@ -87,3 +88,7 @@ written_both start head body bytes fits =
     ∙ ap (λ x. (a ++ head) ++ (body ++ x)) back
     ∙ append_assoc a head (body ++ last)
     ∙ ap (λ x. a ++ x) (sym (append_assoc head body last))
+
+-- `memory.copy_within(from..from + w, to)` as its contract has it
+pub pasted-bytes : (w from to n : ℕ) (bytes : List ℕ) → n ≡ w → paste bytes to (drop from bytes) n ≡ with_bytes to w (bytes_at from w bytes) bytes
+pasted-bytes w from to n bytes e = ap (paste bytes to (drop from bytes)) e ∙ append_assoc (take to bytes) (bytes_at from w bytes) (drop (to + w) bytes)

@@ -5,4 +5,4 @@ pub mod mark;
 pub mod memory;
 
 pub use mark::{is_row, mark_of};
-pub use memory::Blocks;
+pub use memory::{Blocks, move_block, read_block, write_block};
