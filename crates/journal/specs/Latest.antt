@@ -1,11 +1,12 @@
 -- What the index of a journal leads to, and what one entry more does.
-use Rattle.std.specs.Prelude.{◌≡◌, ℕ, ◌+◌, ◌-◌, ◌*◌, ◌<◌, ◌≤◌, List, [], ◌∷◌, ◌++◌, length, get_or, set, replicate, Some, None, slice_index, slice_index_or, slice_set, Option, refl}
+use Rattle.std.specs.Prelude.{◌≡◌, ℕ, ◌+◌, ◌-◌, ◌*◌, ◌<◌, ◌≤◌, true, false, cond, List, [], ◌∷◌, ◌++◌, length, get_or, take, drop, set, replicate, Some, None, slice_index, slice_index_or, slice_set, Option, refl}
 use Rattle.std.proofs.Common.{sym, ap, ◌∙◌, ⊎_elim, arith}
-use Rattle.std.proofs.lemmas.List.{get_or-set_same, get_or-set_other, length-take, length-drop, length-replicate, get_or_past}
+use Rattle.std.proofs.lemmas.List.{get_or-set_same, get_or-set_other, take_all, length-take, length-drop, length-replicate, get_or_past}
 use Rattle.std.proofs.lemmas.Bool.{cases_eq, cases_lt, ne_eqb}
 use Rattle.std.proofs.lemmas.List.FromFn.{get_or-map-range_with_len}
 use Rattle.board.specs.Meaning.{Row, Whole, vacant}
 use Rattle.blocks.specs.Blocks.{block, with_block, Bytes}
+use Rattle.blocks.specs.Marks.{is_row}
 use Rattle.blocks.proofs.ByteLists.{bytes-block}
 use Rattle.journal.specs.Replay.{Note, replayed, indexed, Leads}
 use Rattle.journal.specs.Entries.{note_of, notes, entry_rows}
@@ -30,6 +31,17 @@ module _ (capacity n used : ℕ) (bytes : List ℕ) (place : ℕ) (inside : n < 
       decides ∙ rw (ne_eqb place 0 (λ z. omega arith))
       (ap (λ (x : Note). x.1) (get_or-map-range_with_len (λ i. note_of (block 131 i bytes)) 0 used (place - 1) (place - 1) (0, None) (omega (arith, place-within)) (omega arith)))
       ∙ ap (λ i. (note_of (block 131 i bytes)).1) before
+
+  -- the entry e is read there
+  module _ (e : List ℕ) (read : e ≡ block 131 (place - 1) bytes) (ne : place ≡ 0 → ⊥) where
+    row-read : slice_index_or (entry_rows capacity used bytes) n None ≡ (note_of e).1
+    row-read = row-there (place - 1) (omega (arith, ne)) ∙ ap (λ (x : List ℕ). (note_of x).1) (sym read)
+
+    pub row-cleared : false ≡ is_row (slice_index e 0) → slice_index_or (entry_rows capacity used bytes) n None ≡ None
+    row-cleared no_row = row-read ∙ ap (λ b. cond b (Some (drop 3 e)) None) (sym no_row)
+
+    pub row-found : true ≡ is_row (slice_index e 0) → length e ≡ 131 → slice_index_or (entry_rows capacity used bytes) n None ≡ Some (take 128 (drop 3 e))
+    row-found row long = row-read ∙ ap (λ b. cond b (Some (drop 3 e)) None) (sym row) ∙ ap Some (sym (take_all 128 (drop 3 e) (rw (length-drop, long) (omega arith))))
 
 -- every row has 128 bytes
 pub rows_whole : (capacity used : ℕ) (bytes : List ℕ) → 131 * used ≤ length bytes → Bytes bytes → (n : ℕ) (row : Row) → slice_index_or (entry_rows capacity used bytes) n None ≡ Some row → Whole row
