@@ -1,8 +1,9 @@
-// The blocks of a memory. A board shows at each call that the block is among them; no figure from outside reaches these functions.
+// The blocks of a memory: functions that take any memory and any width, and ask each time that the block lies there, and `Blocks`, which keeps one width and knows how many blocks it has.
+// A board shows at each call that the block is among them; no figure from outside reaches these functions.
 ghost use Rattle.std.specs.Prelude.{◌≡◌, ◌+◌, ◌*◌, ◌/◌, ◌<◌, ◌≤◌, ◌++◌, length, replicate, vec_items, vec_len};
 ghost use Rattle.blocks.specs.Blocks.{bytes_at, with_bytes, block, with_block, Bytes};
 
-// A memory and how many blocks of a width it has. What is left behind the last of them is never written.
+// A memory and how many blocks of a width it has. What is left behind the last of them is wiped at the making, and not written after.
 #[derive(Drop)]
 pub struct Blocks<const WIDTH: usize> {
     memory: Vec<u8>,
