@@ -8,6 +8,7 @@ mod tests {
     use run::Call;
     use scriptlines::{BoardForm, Line, SheetName, read_line};
     use std::test::Fail;
+    use words::all_numbers;
 
     // What a line is, without what it holds.
     #[derive(Clone, Copy, PartialEq, Eq, Debug)]
@@ -194,6 +195,22 @@ mod tests {
         assert_eq!(rt; form_of(&stored(0, b'0')), Form::Unreadable);
         assert_eq!(rt; form_of(b"row 5"), Form::Row);
         assert_eq!(rt; form_of(b"clear 5"), Form::Clear);
+        Ok(())
+    }
+
+    // A line's numbers are copied, and each copy goes on by itself.
+    #[test]
+    fn numbers_are_copied(rt: HostRuntime) -> Result<(), Fail> {
+        let Some(mut numbers) = all_numbers(b"7 11") else {
+            return Err(Fail::new("no numbers"));
+        };
+        let mut copy = numbers;
+        let clone = copy.clone();
+        assert!(rt; numbers.push(13).is_ok());
+        assert!(rt; copy.push(17).is_ok());
+        assert_eq!(rt; numbers.as_slice(), &[7, 11, 13]);
+        assert_eq!(rt; copy.as_slice(), &[7, 11, 17]);
+        assert_eq!(rt; clone.as_slice(), &[7, 11]);
         Ok(())
     }
 
