@@ -4,43 +4,52 @@ ghost use Rattle.house.specs.Houses.{lines_of};
 ghost use Rattle.scriptlines.specs.Lines.{said};
 ghost use Rattle.priceanswers.specs.Moving.{found_memory};
 ghost use Rattle.pricelines.specs.Lines.{answer_to, lines_after, Moved, Answered};
+ghost use Rattle.pricelines.specs.Pricing.{told, line_as};
 
 use crate::alone::Pricing;
+use crate::line::PricingLine;
+use crate::reading::read_line;
 use answers::Answer;
 use player::Answering;
 use priceanswers::{choose_answer, house_answer, price_answer, rating_answer};
-use scriptlines::{Line, read_line};
+use scriptlines::Line;
 use std::alloc::Global;
 
 impl Pricing {
-    // What a line is answered, none where it is silent. A line about a board or a cabinet is unreadable.
+    // What a pricing line is answered, none where it is silent.
+    pub fn answer_line(&mut self, heap: Global, line: PricingLine<&[u8]>) -> Option<Answer>
+        ensures answer { result ≡ answer_to (found_memory result) (lines_of self.old.house) (line_as (told line.entry)) }
+        ensures after { lines_of self.new.house ≡ lines_after (found_memory result) (line_as (told line.entry)) (lines_of self.old.house) }
+        ensures moved { Moved (lines_of self.old.house) (lines_of self.new.house) result }
+    {
+        match line {
+            PricingLine::Silent => None,
+            PricingLine::Unreadable => Some(Answer::Unreadable),
+            PricingLine::Rating { network, ampere } => Some(rating_answer(network, ampere)),
+            PricingLine::House(text) => Some(house_answer(heap, text, &mut self.house)),
+            PricingLine::Price { sheet, code, facts } => {
+                Some(price_answer(sheet, code, &facts, &self.house))
+            }
+            PricingLine::Choose { sheet, facts } => Some(choose_answer(sheet, &facts, &self.house)),
+        }
+    }
+
+    // What a line of any form is answered, none where it is silent. A line about a board or a cabinet is unreadable.
+    #[tactic(auto, using(crate::proofs::Narrowed::narrowed_answer, crate::proofs::Narrowed::narrowed_lines))]
     pub fn answer(&mut self, heap: Global, line: Line<&[u8]>) -> Option<Answer>
         ensures answer { result ≡ answer_to (found_memory result) (lines_of self.old.house) (said line.entry) }
         ensures after { lines_of self.new.house ≡ lines_after (found_memory result) (said line.entry) (lines_of self.old.house) }
         ensures moved { Moved (lines_of self.old.house) (lines_of self.new.house) result }
     {
-        match line {
-            Line::Silent => None,
-            Line::Rating { network, ampere } => Some(rating_answer(network, ampere)),
-            Line::House(text) => Some(house_answer(heap, text, &mut self.house)),
-            Line::Price { sheet, code, facts } => {
-                Some(price_answer(sheet, code, &facts, &self.house))
-            }
-            Line::Choose { sheet, facts } => Some(choose_answer(sheet, &facts, &self.house)),
-            Line::Unreadable
-            | Line::Board(_)
-            | Line::Call(_)
-            | Line::Row(_)
-            | Line::Store { .. }
-            | Line::Clear(_) => Some(Answer::Unreadable),
-        }
+        self.answer_line(heap, PricingLine::from(line))
     }
 }
 
 impl Answering for Pricing {
     ghost answer_text_gives = { λ before text a after. Answered (lines_of before.house) text a (lines_of after.house) };
 
+    #[tactic(auto, using(crate::proofs::Narrowed::narrowed_answer, crate::proofs::Narrowed::narrowed_lines))]
     fn answer_text(&mut self, heap: Global, text: &[u8]) -> Option<Answer> {
-        self.answer(heap, read_line(text))
+        self.answer_line(heap, read_line(text))
     }
 }

@@ -3,5 +3,10 @@
 
 mod alone;
 mod answering;
+mod line;
+mod reading;
 
 pub use alone::Pricing;
+pub use line::PricingLine;
+pub use lineforms::SheetName;
+pub use reading::read_line;
