@@ -1,3 +1,2 @@
 mod Rows
 mod Chosen
-mod Handed

@@ -1,29 +1,16 @@
 -- The plan that is found, or why there is none: the sheet is looked at first, then the facts, then what is permitted.
 use Rattle.std.specs.Prelude.{ℕ, Some, None, Ok, Err, Option, Result}
 use Rattle.facts.specs.declared.form.FactsFault.{FactsFault}
-use Rattle.facts.specs.declared.facts.Facts.{Facts as GivenFacts}
-use Rattle.facts.specs.Usage.{Usage, usage_of}
+use Rattle.facts.specs.Usage.{Usage}
 use Rattle.sheet.specs.declared.plan.Plan.{Plan}
 use Rattle.sheet.specs.Tariff.{Tariff, price_answer}
 use Rattle.sheet.specs.Choice.{chosen}
-use Rattle.sheets.specs.declared.any.AnySheet.{AnySheet}
-use Rattle.sheets.specs.Named.{tariff_of}
 use Rattle.exports.specs.declared.fault.Fault.{Fault}
 use Rattle.exports.specs.declared.fault.Fault.TheVariants.{Facts, NotPermitted}
 
 abbrev pub permitted_plan : Option Plan → Result Plan Fault
 permitted_plan (Some plan) = Ok plan
 permitted_plan None = Err NotPermitted
-
--- what a sheet and facts mean
-abbrev pub tariff_and_usage : AnySheet × GivenFacts → Tariff × Usage
-tariff_and_usage p = (tariff_of p.0, usage_of p.1)
-
--- the tariff and the usage together, or what stands in the way
-abbrev pub handed_both : Result Tariff Fault → Result Usage FactsFault → Result (Tariff × Usage) Fault
-handed_both (Err f) facts = Err f
-handed_both (Ok t) (Err f) = Err (Facts f)
-handed_both (Ok t) (Ok u) = Ok (t, u)
 
 -- the plan of a code
 abbrev pub priced : Result Tariff Fault → ℕ → Result Usage FactsFault → Result Plan Fault

@@ -5,7 +5,7 @@ ghost use Rattle.sheets.specs.Named.{tariff_of};
 ghost use Rattle.house.specs.Houses.{lines_of};
 ghost use Rattle.exports.specs.Crossing.{facts_form};
 ghost use Rattle.exports.specs.Sheets.{name_at, lines_handed, tariff_handed};
-ghost use Rattle.exports.specs.Prices.{handed_both, tariff_and_usage, priced, cheapest_plan};
+ghost use Rattle.exports.specs.Prices.{priced, cheapest_plan};
 ghost use Rattle.exports.specs.Statuses.{plan_status, plan_place};
 ghost use Rattle.exports.specs.Chosen.{TellsCheapest};
 
@@ -51,20 +51,12 @@ fn sheet_for(number: u64, bytes: &[u8]) -> Result<AnySheet, Fault>
     Ok(AnySheet::named(name, house))
 }
 
-// The sheet and the facts that a caller hands in.
-fn handed_in(number: u64, bytes: &[u8], facts: &PeriodFacts) -> Result<(AnySheet, Facts), Fault>
-    ensures { made tariff_and_usage result ≡ handed_both (tariff_handed (name_at number) bytes.now) (facts_made (facts_form facts.now)) }
-{
-    let sheet = sheet_for(number, bytes)?;
-    let facts = Facts::new(&FactsForm::from(facts))?;
-    Ok((sheet, facts))
-}
-
 // The plan of a code.
 fn price(number: u64, bytes: &[u8], code: u64, facts: &PeriodFacts) -> Result<Plan, Fault>
     ensures { result ≡ priced (tariff_handed (name_at number) bytes.now) code (facts_made (facts_form facts.now)) }
 {
-    let (sheet, facts) = handed_in(number, bytes, facts)?;
+    let sheet = sheet_for(number, bytes)?;
+    let facts = Facts::new(&FactsForm::from(facts))?;
     price_of(&sheet, code, &facts).ok_or(Fault::NotPermitted)
 }
 
@@ -72,7 +64,8 @@ fn price(number: u64, bytes: &[u8], code: u64, facts: &PeriodFacts) -> Result<Pl
 fn cheapest(number: u64, bytes: &[u8], facts: &PeriodFacts) -> Result<Plan, Fault>
     ensures { result ≡ cheapest_plan (tariff_handed (name_at number) bytes.now) (facts_made (facts_form facts.now)) }
 {
-    let (sheet, facts) = handed_in(number, bytes, facts)?;
+    let sheet = sheet_for(number, bytes)?;
+    let facts = Facts::new(&FactsForm::from(facts))?;
     choose(&sheet, &facts).ok_or(Fault::NotPermitted)
 }
 
