@@ -60,7 +60,7 @@ impl<B: Board> Cabinet<B> {
     {
         self.ledger
             .book(due.number, due.account, due.end, plan.cents)?;
-        Ok(Bill::new(due, plan))
+        Ok(Bill::new(&due.account, due.months, plan))
     }
 
     // Bills the period up to an end month on the cheapest plan of a sheet. Refused by 3, 17, 7, 10, 11, 12, 13, 15.
