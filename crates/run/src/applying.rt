@@ -1,7 +1,7 @@
 // One call made.
 ghost use Rattle.std.specs.Prelude.{◌≡◌};
 ghost use Rattle.cabinet.specs.Books.{books_of};
-ghost use Rattle.law.specs.Transcript.{showing, reply_of, after_of};
+ghost use Rattle.law.specs.Transcript.{paying, showing, reply_of, after_of};
 ghost use Rattle.run.specs.Asked.{asked, told, told_by};
 
 use crate::answer::Answer;
@@ -34,6 +34,15 @@ fn blank() -> Account {
         waiting: [0; 12],
         balance: 0,
     }
+}
+
+// Takes a payment for the account of a number.
+fn pay<B: Board>(cabinet: &mut Cabinet<B>, number: u64, cents: u64) -> Result<Answer, CabinetFault>
+    ensures answer { told_by result ≡ reply_of (books_of B.meaning cabinet.old) (paying number cents) }
+    ensures after { books_of B.meaning cabinet.new ≡ after_of (books_of B.meaning cabinet.old) (paying number cents) }
+{
+    cabinet.pay(number, cents)?;
+    Ok(Answer::Done)
 }
 
 // Shows the account of a number.
@@ -74,10 +83,7 @@ fn outcome<B: Board, S: Sheet>(
             let bill = cabinet.settle(*number, *end, sheet)?;
             Ok(Answer::Billed(bill))
         }
-        Call::Pay { number, cents } => {
-            cabinet.pay(*number, *cents)?;
-            Ok(Answer::Done)
-        }
+        Call::Pay { number, cents } => pay(cabinet, *number, *cents),
         Call::Close { number } => {
             cabinet.close(*number)?;
             Ok(Answer::Done)
