@@ -25,3 +25,12 @@ held-step l n (Some code) = grind (arith, nat_tests)
 -- the cheapest code with its price, one code more
 pub held_more : (l : PriceList) (n : ℕ) (best : Option Candidate) → best ≡ held_below l n → better_held l best n ≡ held_below l (n + 1)
 held_more l n best e = sym (rw (best-more l n) (rw e (held-step l n (best_of l n))))
+
+-- the code of the cheapest candidate
+pub code-held : (l : PriceList) (o : Option ℕ) (c : Candidate) → Some c ≡ option_map (candidate_of l) o → o ≡ Some c.code
+code-held l None c e = let z : ◌≡◌ {A = ℕ} 0 1 = cc in absurd (omega arith)
+code-held l (Some k) c e = cc
+
+pub none-held : (l : PriceList) (o : Option ℕ) → None ≡ option_map (candidate_of l) o → o ≡ None
+none-held l None e = cc
+none-held l (Some k) e = let z : ◌≡◌ {A = ℕ} 0 1 = cc in absurd (omega arith)
