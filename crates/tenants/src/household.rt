@@ -1,6 +1,6 @@
 // Kinds of households.
 ghost use Rattle.std.specs.Prelude.{◌≡◌};
-ghost use Rattle.tenants.specs.Households.{profile_of, monthly_of, billed_after};
+ghost use Rattle.tenants.specs.Households.{household_at, profile_of, monthly_of, billed_after};
 
 use facts::ProfileForm;
 
@@ -35,6 +35,16 @@ pub(crate) const HOUSEHOLDS: [Household; 8] = [
 ];
 
 impl Household {
+    // The household of a number below eight; of any other number the last.
+    pub fn from_number(number: u64) -> Household
+        ensures { result ≡ household_at number }
+    {
+        HOUSEHOLDS
+            .get(number as usize)
+            .copied()
+            .unwrap_or(Household::Workshop)
+    }
+
     // What is agreed with it.
     pub fn profile(self) -> ProfileForm
         ensures { result ≡ profile_of self }
