@@ -29,36 +29,27 @@ fn is_within(asked: &Asked) -> bool {
 // Reads the arguments, or says how they are to be.
 pub fn read(rt: &HostRuntime) -> anyhow::Result<Asked> {
     let mut script = false;
-    let mut numbers = Vec::new(rt.alloc());
+    let mut numbers = [DEFAULT.dwellings, DEFAULT.years, DEFAULT.seed];
+    let mut places = numbers.iter_mut();
     for word in env::args(rt)?.skip(1) {
         if word.as_str() == "--script" {
             script = true;
         } else if let Ok(number) = word.as_str().parse::<u64>() {
-            numbers.push(number)?;
+            let Some(place) = places.next() else {
+                bail!("{USAGE}");
+            };
+            *place = number;
         } else {
             bail!("{USAGE}");
         }
     }
-    let asked = match *numbers.as_slice() {
-        [] => DEFAULT,
-        [dwellings] => Asked {
-            dwellings,
-            ..DEFAULT
-        },
-        [dwellings, years] => Asked {
-            dwellings,
-            years,
-            ..DEFAULT
-        },
-        [dwellings, years, seed] => Asked {
-            dwellings,
-            years,
-            seed,
-            ..DEFAULT
-        },
-        _ => bail!("{USAGE}"),
+    let [dwellings, years, seed] = numbers;
+    let asked = Asked {
+        dwellings,
+        years,
+        seed,
+        script,
     };
-    let asked = Asked { script, ..asked };
     if !is_within(&asked) {
         bail!("{USAGE}");
     }
