@@ -1,6 +1,6 @@
 // Numbers and bytes as an answer shows them.
-ghost use Rattle.std.specs.Prelude.{Some};
-ghost use Rattle.answers.specs.Texts.{spaced_all, hex_text, state_text};
+ghost use Rattle.std.specs.Prelude.{◌≡◌, ◌<◌, Some};
+ghost use Rattle.answers.specs.Texts.{spaced_all, hex_digit, hex_text, state_text};
 
 use account::State;
 use std::fmt;
@@ -20,7 +20,17 @@ impl fmt::Display for Spaced<'_> {
     }
 }
 
+// The lower-case digit of a value below 16.
+fn hex_digit(value: u8) -> char
+    requires { value < 16 }
+    ensures digit { result ≡ hex_digit value }
+    ensures ascii { result < 128 }
+{
+    char::from_digit(u32::from(value), 16).unwrap()
+}
+
 // Bytes in hexadecimal digits, two for each.
+// Written digit by digit, since `{:02x}` pads a number, which takes longer.
 #[derive(Clone, Copy)]
 pub struct Hex<'a>(pub &'a [u8]);
 
@@ -29,7 +39,9 @@ impl fmt::Display for Hex<'_> {
 
     fn fmt<W: fmt::Write>(&self, f: &mut fmt::Formatter<W>) -> fmt::Result {
         for &byte in self.0 {
-            write!(f, "{byte:02x}")?;
+            let high = hex_digit(byte / 16);
+            let low = hex_digit(byte % 16);
+            write!(f, "{high}{low}")?;
         }
         Ok(())
     }
