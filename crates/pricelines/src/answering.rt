@@ -22,16 +22,16 @@ impl Pricing {
         ensures after { lines_of self.new.house ≡ lines_after (found_memory result) (line_as (told line.entry)) (lines_of self.old.house) }
         ensures moved { Moved (lines_of self.old.house) (lines_of self.new.house) result }
     {
-        match line {
-            PricingLine::Silent => None,
-            PricingLine::Unreadable => Some(Answer::Unreadable),
-            PricingLine::Rating { network, ampere } => Some(rating_answer(network, ampere)),
-            PricingLine::House(text) => Some(house_answer(heap, text, &mut self.house)),
+        Some(match line {
+            PricingLine::Silent => return None,
+            PricingLine::Unreadable => Answer::Unreadable,
+            PricingLine::Rating { network, ampere } => rating_answer(network, ampere),
+            PricingLine::House(text) => house_answer(heap, text, &mut self.house),
             PricingLine::Price { sheet, code, facts } => {
-                Some(price_answer(sheet, code, &facts, &self.house))
+                price_answer(sheet, code, &facts, &self.house)
             }
-            PricingLine::Choose { sheet, facts } => Some(choose_answer(sheet, &facts, &self.house)),
-        }
+            PricingLine::Choose { sheet, facts } => choose_answer(sheet, &facts, &self.house),
+        })
     }
 
     // What a line of any form is answered, none where it is silent. A line about a board or a cabinet is unreadable.
