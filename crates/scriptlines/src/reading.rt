@@ -104,11 +104,15 @@ fn ask<'a>(verb: Verb, rest: &'a [u8]) -> Option<Line<&'a [u8]>>
 fn line_with<'a>(word: &[u8], rest: &'a [u8]) -> Line<&'a [u8]>
     ensures { said result ≡ line_with word.now rest.now }
 {
-    match word {
-        [] | [b'#', ..] => Line::Silent,
-        _ => verb_of(word)
-            .and_then(|verb| ask(verb, rest))
-            .unwrap_or(Line::Unreadable),
+    if let [] | [b'#', ..] = word {
+        return Line::Silent;
+    }
+    let Some(verb) = verb_of(word) else {
+        return Line::Unreadable;
+    };
+    match ask(verb, rest) {
+        Some(line) => line,
+        None => Line::Unreadable,
     }
 }
 
