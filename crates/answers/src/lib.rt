@@ -3,7 +3,9 @@
 
 mod answer;
 mod numbers;
+mod price;
 mod shown;
 
 pub use answer::{Answer, BillFigures};
 pub use numbers::{Hex, Spaced};
+pub use price::PriceAnswer;

@@ -24,12 +24,12 @@ impl Desk {
         match line {
             Line::Silent => None,
             Line::Unreadable => Some(Answer::Unreadable),
-            Line::Rating { network, ampere } => Some(rating_answer(network, ampere)),
-            Line::House(text) => Some(house_answer(heap, text, &mut self.house)),
+            Line::Rating { network, ampere } => Some(rating_answer(network, ampere).into()),
+            Line::House(text) => Some(house_answer(heap, text, &mut self.house).into()),
             Line::Price { sheet, code, facts } => {
-                Some(price_answer(sheet, code, &facts, &self.house))
+                Some(price_answer(sheet, code, &facts, &self.house).into())
             }
-            Line::Choose { sheet, facts } => Some(choose_answer(sheet, &facts, &self.house)),
+            Line::Choose { sheet, facts } => Some(choose_answer(sheet, &facts, &self.house).into()),
             Line::Board(form) => Some(board_answer(heap, form, &mut self.bench)),
             Line::Call(call) => Some(call_answer(call, &self.house, &mut self.bench)),
             Line::Row(number) => Some(row_answer(number, &mut self.bench)),
@@ -40,9 +40,15 @@ impl Desk {
 }
 
 impl Answering for Desk {
+    type Told = Answer;
+
     ghost answer_text_gives = { λ before text a after. Answered (desk_of before) text a (desk_of after) };
 
     fn answer_text(&mut self, heap: Global, text: &[u8]) -> Option<Answer> {
         self.answer(heap, read_line(text))
+    }
+
+    fn no_memory() -> Answer {
+        Answer::NoMemory
     }
 }

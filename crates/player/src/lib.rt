@@ -1,23 +1,28 @@
 // Playing a script: it is read line by line, and each line is answered.
 #![tactic(auto)]
 
-ghost use Rattle.std.specs.Prelude.{◌≡◌, ℕ, List, Option};
-ghost use Rattle.answers.specs.declared.answer.Answer.{Answer as AnswerTo};
+ghost use Rattle.std.specs.Prelude.{◌≡◌, ℕ, List, Some, Option, codes};
 ghost use Rattle.player.specs.LineEnds.{without_end};
 
-use answers::Answer;
 use std::alloc::Global;
-use std::io;
 use std::io::{BufRead, BufReader, BufWriter, ErrorKind, Write};
+use std::{fmt, io};
 
 // What a script is played on: it answers line by line, and a line may move it.
 pub trait Answering {
+    // the answer to a line
+    type Told: fmt::Display + Drop;
+
     // what answers before a line, the text of the line, its answer, and what answers after it
-    ghost answer_text_gives: { Self → List ℕ → Option AnswerTo → Self → Type 0 };
+    ghost answer_text_gives: { Self → List ℕ → Option Self.Told → Self → Type 0 };
 
     // What the text of a line is answered, without its line feed, none where the line is silent.
-    fn answer_text(&mut self, heap: Global, text: &[u8]) -> Option<Answer>
+    fn answer_text(&mut self, heap: Global, text: &[u8]) -> Option<Self::Told>
         ensures { answer_text_gives self.old text.now result self.new };
+
+    // What a line is answered for which no memory was found.
+    fn no_memory() -> Self::Told
+        ensures { Self.Told.output result ≡ Some (codes "no-memory") };
 }
 
 // What comes next of a script.
@@ -70,7 +75,7 @@ fn play_lines<On: Answering, In: BufRead, Out: Write>(
     for _ in 0..u64::MAX {
         let answer = match next_line(input, &mut line)? {
             Next::Line => on.answer_text(heap, without_end(line.as_slice())),
-            Next::TooLong => Some(Answer::NoMemory),
+            Next::TooLong => Some(On::no_memory()),
             Next::End => return output.flush(),
         };
         if let Some(answer) = answer {

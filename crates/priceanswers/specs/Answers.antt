@@ -16,6 +16,8 @@ use Rattle.house.specs.Refusals.{sheet_refusal}
 use Rattle.house.specs.Reading.{read_of, reading_after}
 use Rattle.answers.specs.declared.answer.Answer.{Answer}
 use Rattle.answers.specs.declared.answer.Answer.TheVariants as answer
+use Rattle.answers.specs.declared.price.PriceAnswer.{PriceAnswer}
+use Rattle.answers.specs.Prices.{wide}
 
 abbrev pub rating_answer : Result ℕ RatingFault → Answer
 rating_answer (Ok tenths) = answer.Tenths tenths
@@ -35,6 +37,11 @@ plan_answer None = answer.NoPlan
 abbrev pub refused_or_answer : Result Answer Refusal → Answer
 refused_or_answer (Ok a) = a
 refused_or_answer (Err r) = answer.Refused r
+
+-- an answer to a pricing line, or the refusal in its place, among all answers
+abbrev pub refused_or_wide : Result PriceAnswer Refusal → Answer
+refused_or_wide (Ok a) = refused_or_answer (Ok (wide a))
+refused_or_wide (Err r) = refused_or_answer (Err r)
 
 -- facts outside their limits are refused, whatever the sheet and the code are
 abbrev pub price_line_answer : Tariff → ℕ → Result Usage FactsFault → Answer
