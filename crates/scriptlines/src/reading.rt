@@ -84,6 +84,8 @@ fn store<'a>(rest: &'a [u8]) -> Option<Line<&'a [u8]>>
 
 // What a line asks for by its verb and what stands behind it, none where it is of no form.
 // Lines are made by `Some(..?)`, since a line borrows from the text, and a function that makes one cannot be handed to `map`.
+// Not put into its callers, so that a line without a word is not charged with the room that one with facts takes.
+#[inline(never)]
 fn ask<'a>(verb: Verb, rest: &'a [u8]) -> Option<Line<&'a [u8]>>
     ensures { option_map said result ≡ asked verb rest.now }
 {
