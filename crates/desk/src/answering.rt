@@ -8,7 +8,7 @@ ghost use Rattle.desk.specs.Lines.{line_answer, line_after, LineMoves, LineKeeps
 use crate::desk::Desk;
 use answers::Answer;
 use benchlines::{board_answer, call_answer, clear_answer, row_answer, store_answer};
-use player::Answering;
+use player::{Answering, Telling};
 use priceanswers::{choose_answer, house_answer, price_answer, rating_answer};
 use scriptlines::{Line, read_line};
 use std::alloc::Global;
@@ -39,16 +39,24 @@ impl Desk {
     }
 }
 
-impl Answering for Desk {
+impl Telling for Desk {
     type Told = Answer;
 
-    ghost answer_text_gives = { λ before text a after. Answered (desk_of before) text a (desk_of after) };
+    ghost tell_text_gives = { λ before text a after. Answered (desk_of before) text a (desk_of after) };
 
-    fn answer_text(&mut self, heap: Global, text: &[u8]) -> Option<Answer> {
+    fn tell_text(&mut self, heap: Global, text: &[u8]) -> Option<Answer> {
         self.answer(heap, read_line(text))
     }
 
     fn no_memory() -> Answer {
         Answer::NoMemory
+    }
+}
+
+impl Answering for Desk {
+    ghost answer_text_gives = { λ before text a after. Answered (desk_of before) text a (desk_of after) };
+
+    fn answer_text(&mut self, heap: Global, text: &[u8]) -> Option<Answer> {
+        self.tell_text(heap, text)
     }
 }

@@ -2,9 +2,9 @@
 #![tactic(auto)]
 
 use desk::Desk;
-use player::play;
+use player::play_telling;
 use std::io;
 
 fn main(rt: HostRuntime) -> io::Result<()> {
-    play(&rt, &mut Desk::new())
+    play_telling(&rt, &mut Desk::new())
 }

@@ -2,27 +2,54 @@
 #![tactic(auto)]
 
 ghost use Rattle.std.specs.Prelude.{◌≡◌, ℕ, List, Some, Option, codes};
+ghost use Rattle.answers.specs.declared.answer.Answer.{Answer as AnswerTo};
 ghost use Rattle.player.specs.LineEnds.{without_end};
 
+use answers::Answer;
 use std::alloc::Global;
 use std::io::{BufRead, BufReader, BufWriter, ErrorKind, Write};
 use std::{fmt, io};
 
 // What a script is played on: it answers line by line, and a line may move it.
 pub trait Answering {
+    // what answers before a line, the text of the line, its answer, and what answers after it
+    ghost answer_text_gives: { Self → List ℕ → Option AnswerTo → Self → Type 0 };
+
+    // What the text of a line is answered, without its line feed, none where the line is silent.
+    fn answer_text(&mut self, heap: Global, text: &[u8]) -> Option<Answer>
+        ensures { answer_text_gives self.old text.now result self.new };
+}
+
+// The same with a type of answers of its own, which takes less time to move where it has less room than an answer among all.
+pub trait Telling {
     // the answer to a line
     type Told: fmt::Display + Drop;
 
     // what answers before a line, the text of the line, its answer, and what answers after it
-    ghost answer_text_gives: { Self → List ℕ → Option Self.Told → Self → Type 0 };
+    ghost tell_text_gives: { Self → List ℕ → Option Self.Told → Self → Type 0 };
 
     // What the text of a line is answered, without its line feed, none where the line is silent.
-    fn answer_text(&mut self, heap: Global, text: &[u8]) -> Option<Self::Told>
-        ensures { answer_text_gives self.old text.now result self.new };
+    fn tell_text(&mut self, heap: Global, text: &[u8]) -> Option<Self::Told>
+        ensures { tell_text_gives self.old text.now result self.new };
 
     // What a line is answered for which no memory was found.
     fn no_memory() -> Self::Told
         ensures { Self.Told.output result ≡ Some (codes "no-memory") };
+}
+
+// What has `Answering` tells the same answers by a `&mut` to it.
+impl<On: Answering> Telling for &mut On {
+    type Told = Answer;
+
+    ghost tell_text_gives = { λ before text a after. On.answer_text_gives before.now text a after.now };
+
+    fn tell_text(&mut self, heap: Global, text: &[u8]) -> Option<Answer> {
+        (**self).answer_text(heap, text)
+    }
+
+    fn no_memory() -> Answer {
+        Answer::NoMemory
+    }
 }
 
 // What comes next of a script.
@@ -65,7 +92,7 @@ fn next_line<In: BufRead>(input: &mut In, line: &mut Vec<u8>) -> io::Result<Next
 }
 
 // Reads a script to its end, and writes the answer to each line in turn.
-fn play_lines<On: Answering, In: BufRead, Out: Write>(
+fn play_lines<On: Telling, In: BufRead, Out: Write>(
     heap: Global,
     on: &mut On,
     input: &mut In,
@@ -74,7 +101,7 @@ fn play_lines<On: Answering, In: BufRead, Out: Write>(
     let mut line = Vec::new(heap);
     for _ in 0..u64::MAX {
         let answer = match next_line(input, &mut line)? {
-            Next::Line => on.answer_text(heap, without_end(line.as_slice())),
+            Next::Line => on.tell_text(heap, without_end(line.as_slice())),
             Next::TooLong => Some(On::no_memory()),
             Next::End => return output.flush(),
         };
@@ -87,6 +114,12 @@ fn play_lines<On: Answering, In: BufRead, Out: Write>(
 
 // Plays the script on standard input, with the answers on standard output.
 pub fn play<On: Answering>(rt: &HostRuntime, on: &mut On) -> io::Result<()> {
+    let mut lent = on;
+    play_telling(rt, &mut lent)
+}
+
+// The same on what has a type of answers of its own.
+pub fn play_telling<On: Telling>(rt: &HostRuntime, on: &mut On) -> io::Result<()> {
     let mut input = BufReader::new(rt.alloc(), rt.stdin())?;
     let mut output = BufWriter::new(rt.alloc(), rt.stdout())?;
     play_lines(rt.alloc(), on, &mut input, &mut output)

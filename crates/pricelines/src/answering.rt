@@ -12,7 +12,7 @@ use crate::alone::Pricing;
 use crate::line::PricingLine;
 use crate::reading::read_line;
 use answers::{Answer, PriceAnswer};
-use player::Answering;
+use player::{Answering, Telling};
 use priceanswers::{choose_answer, house_answer, price_answer, rating_answer};
 use scriptlines::Line;
 use std::alloc::Global;
@@ -48,17 +48,26 @@ impl Pricing {
     }
 }
 
-impl Answering for Pricing {
+impl Telling for Pricing {
     type Told = PriceAnswer;
 
-    ghost answer_text_gives = { λ before text a after. Answered (lines_of before.house) text (option_map wide a) (lines_of after.house) };
+    ghost tell_text_gives = { λ before text a after. Answered (lines_of before.house) text (option_map wide a) (lines_of after.house) };
 
     #[tactic(auto, using(crate::proofs::Narrowed::narrowed_answer, crate::proofs::Narrowed::narrowed_lines))]
-    fn answer_text(&mut self, heap: Global, text: &[u8]) -> Option<PriceAnswer> {
+    fn tell_text(&mut self, heap: Global, text: &[u8]) -> Option<PriceAnswer> {
         self.answer_line(heap, read_line(text))
     }
 
     fn no_memory() -> PriceAnswer {
         PriceAnswer::NoMemory
+    }
+}
+
+// Answered in the same way, by an answer among all.
+impl Answering for Pricing {
+    ghost answer_text_gives = { λ before text a after. Answered (lines_of before.house) text a (lines_of after.house) };
+
+    fn answer_text(&mut self, heap: Global, text: &[u8]) -> Option<Answer> {
+        self.tell_text(heap, text).map(Answer::from)
     }
 }

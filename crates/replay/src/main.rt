@@ -1,10 +1,10 @@
 // Reads a script on standard input and writes an answer to each of its lines.
 #![tactic(auto)]
 
-use player::play;
+use player::play_telling;
 use pricelines::Pricing;
 use std::io;
 
 fn main(rt: HostRuntime) -> io::Result<()> {
-    play(&rt, &mut Pricing::new())
+    play_telling(&rt, &mut Pricing::new())
 }
