@@ -20,7 +20,7 @@ pub trait Answering {
         ensures { answer_text_gives self.old text.now result self.new };
 }
 
-// The same with a type of answers of its own, which takes less time to move where it has less room than an answer among all.
+// The same with a type of answers of its own, which takes less time to move where it has less room than an `Answer`.
 pub trait Telling {
     // the answer to a line
     type Told: fmt::Display + Drop;
@@ -37,7 +37,7 @@ pub trait Telling {
         ensures { Self.Told.output result ≡ Some (codes "no-memory") };
 }
 
-// What has `Answering` tells the same answers by a `&mut` to it.
+// A `&mut` to what has `Answering` tells the same answers.
 impl<On: Answering> Telling for &mut On {
     type Told = Answer;
 

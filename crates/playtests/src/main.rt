@@ -31,10 +31,11 @@ struct Turns {
     next: Turn,
 }
 
+// Whose line it is answers, the other stands, and the turn passes.
 impl Answering for Turns {
     ghost answer_text_gives = { λ before text a after.
-        (before.next ≡ turn.Desk → AnsweredAtDesk (desk_of before.desk) text a (desk_of after.desk))
-        × (before.next ≡ turn.HouseSheet → Answered (lines_of before.pricing.house) text a (lines_of after.pricing.house)) };
+        (before.next ≡ turn.Desk → (after.next ≡ turn.HouseSheet) × (after.pricing ≡ before.pricing) × AnsweredAtDesk (desk_of before.desk) text a (desk_of after.desk))
+        × (before.next ≡ turn.HouseSheet → (after.next ≡ turn.Desk) × (after.desk ≡ before.desk) × Answered (lines_of before.pricing.house) text a (lines_of after.pricing.house)) };
 
     fn answer_text(&mut self, heap: Global, text: &[u8]) -> Option<Answer> {
         match self.next {

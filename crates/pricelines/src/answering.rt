@@ -63,7 +63,7 @@ impl Telling for Pricing {
     }
 }
 
-// Answered in the same way, by an answer among all.
+// The same answers, each as an `Answer`.
 impl Answering for Pricing {
     ghost answer_text_gives = { λ before text a after. Answered (lines_of before.house) text a (lines_of after.house) };
 
